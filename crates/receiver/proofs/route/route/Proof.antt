@@ -1,0 +1,96 @@
+-- `receiver::route::route` meets its contract: each way out is one of the laws of a routing.
+use borrow.Author.Needs.{needs}
+use borrow.Author.Tests.{not-true, not-false}
+use native.Mathlib.Omega.{arith}
+use mathlib.Core.Path.{_≡_, sym, _∙_}
+use mathlib.Core.Bool.{true}
+use Rattle.receiver.specs.Checks.{knownMode, serviceFits}
+use Rattle.receiver.specs.RouteLaws.{known-le, found-unknown, found-misfit, found-graphic, found-dimming, found-void}
+use Rattle.receiver.proofs.route.route.Statement.{statement}
+use Rattle.receiver.proofs.route.route.Tie as tie
+use Rattle.receiver.proofs.route.route.Reads as reads
+use Rattle.receiver.proofs.route.route.Lts as lts
+
+-- what the two tests on the way to the tags said
+known-at : (c : tie.Else1) → knownMode (c .before .before .before .args .mode) ≡ true
+known-at c = sym (c .before .known-mode .ensures) ∙ not-false _ (c .if1 .left)
+
+fits-at : (c : tie.Else2) → serviceFits (c .before .before .before .before .before .args .mode) (c .before .before .before .before .before .args .service .0) ≡ true
+fits-at c = sym (c .before .service-fits .ensures) ∙ not-false _ (c .if2 .left)
+
+returns : tie.Need-returns
+returns c =
+    let a = c .before .before .before .before .args in
+    found-unknown (a .mode) (a .service .0) (a .match-bits) (a .tags .now) (c .none-found .result) (c .none-found .ensures)
+    (sym (c .before .before .known-mode .ensures) ∙ not-true _ (c .before .if1 .taken))
+
+returns-2 : tie.Need-returns-2
+returns-2 c =
+    let a = c .before .before .before .before .before .before .args in
+    found-misfit (a .mode) (a .service .0) (a .match-bits) (a .tags .now) (known-at (c .before .before .before)) (c .none-found2 .result)
+    (c .none-found2 .ensures)
+    (sym (c .before .before .service-fits .ensures) ∙ not-true _ (c .before .if2 .taken))
+
+add-t21 : tie.Need-add-t21
+add-t21 c = omega (arith, known-le (c .before .before .before .before .before .before .before .before .before .args .mode) (known-at (c .before .before .before .before .before .before)))
+
+returns-3 : tie.Need-returns-3
+returns-3 c =
+    let b = c .before .before .before .before in
+    let a = b .before .before .before .before .before .args in
+    rw (c .no-dimmer .ensures)
+    (found-graphic (a .mode) (a .service .0) (a .match-bits) (a .tags .now) (known-at (b .before .before)) (fits-at b) _ _
+    (c .before .before .before .if3 .taken)
+    (c .before .before .check .ensures .0)
+    (c .before .before .check .ensures .1 .0)
+    (c .before .before .check .ensures .1 .1))
+
+add-t22 : tie.Need-add-t22
+add-t22 c = omega (arith, known-le (c .before .before .before .before .before .before .before .before .before .before .args .mode) (known-at (c .before .before .before .before .before .before .before)))
+
+returns-4 : tie.Need-returns-4
+returns-4 c =
+    let b = c .before .before .before .before .before in
+    let a = b .before .before .before .before .before .args in
+    rw (c .before .before .before .no-layout .ensures)
+    (found-dimming (a .mode) (a .service .0) (a .match-bits) (a .tags .now) (known-at (b .before .before)) (fits-at b) _ _
+    (c .before .before .before .before .if3 .left)
+    (c .before .before .if4 .taken)
+    (c .before .check2 .ensures .0)
+    (c .before .check2 .ensures .1 .0)
+    (c .before .check2 .ensures .1 .1)
+    (λ i. b .before .before .before .before .shared-slice-known .given i .fits))
+
+add-t23 : tie.Need-add-t23
+add-t23 c = omega (arith, known-le (c .before .before .before .before .before .before .before .before .before .args .mode) (known-at (c .before .before .before .before .before .before)))
+
+returns-5 : tie.Need-returns-5
+returns-5 c =
+    let b = c .before .before .before .before in
+    let a = b .before .before .before .before .before .args in
+    rw (c .before .before .no-layout .ensures, c .no-dimmer2 .ensures)
+    (found-void (a .mode) (a .service .0) (a .match-bits) (a .tags .now) (known-at (b .before .before)) (fits-at b)
+    (c .before .before .before .if3 .left)
+    (c .before .if4 .left))
+
+pub route-spec : {M : Type 1} → statement M
+route-spec =
+    tie.close
+    (tie.spec
+    (λ c κs. search needs)
+    (λ c κs. search needs)
+    returns
+    (λ c κs. search needs)
+    (λ c κs. search needs)
+    returns-2
+    (λ c κs. search needs)
+    (λ c κs. search needs)
+    add-t21
+    returns-3
+    (λ c κs. search needs)
+    (λ c κs. search needs)
+    add-t22
+    returns-4
+    (λ c κs. search needs)
+    add-t23
+    returns-5)

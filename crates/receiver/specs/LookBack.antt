@@ -1,0 +1,72 @@
+-- The look-back rule (document 01, "Meters and the look-back rule"). A list that demand 3 speaks of is a meter history: the messages
+-- offered, each with the lengths of the slices lent with it. The rule works from that list and the starting readings alone: no type of
+-- the receiver's record is named here. Inside, the latest message stands first, so that "the latest earlier message" is found by
+-- plain recursion.
+use Prim.Native.Nat.{ℕ}
+use mathlib.Core.Bool.{Bool, cond, _&&_}
+use mathlib.Core.List.{List, [], _∷_, map, reverse}
+use lib.Dec.{eqb}
+use Rattle.receiver.specs.Message.{channelOf}
+use Rattle.receiver.specs.Governing.{Governing, closed}
+use Rattle.receiver.specs.Checks.{Sums, sums, governs, plus, overLimit, numberOf}
+use Rattle.receiver.specs.Effects.{decides, decided, sumsAfter}
+
+-- a message of the list: its octets and the lengths of the slices lent with it
+pub record Offer : Type 0 where
+  pub octets : List ℕ
+  pub rows : ℕ
+  pub levels : ℕ
+
+-- a message with the number that the rule gives it
+pub record Judged : Type 0 where
+  pub octets : List ℕ
+  pub number : ℕ
+
+-- What governs channel c behind the judged messages, latest first: "the latest earlier message on its channel that was accepted with
+-- Routing, accepted with Close, or refused by 19" decides; with none the channel is closed.
+unfoldable pub lookback : List Judged → ℕ → Governing
+lookback [] c = closed
+lookback (j ∷ js) c =
+    cond (decides (j .octets) (j .number) && eqb c (channelOf (j .octets)))
+    (decided (j .octets) (j .number))
+    (lookback js c)
+
+-- The durations, points and lit points that the rule works out: what each accepted message adds, by what governs it.
+unfoldable pub workedOut : List Judged → Sums
+workedOut [] = sums 0 0 0
+workedOut (j ∷ js) = sumsAfter (j .octets) (j .number) (governs (j .octets) (lookback js)) (workedOut js)
+
+-- "the running sums of the list, which are the starting readings plus what its accepted messages so far add"
+abbrev pub running : Sums → List Judged → Sums
+running start js = plus start (workedOut js)
+
+-- the number of one more message behind the judged ones
+abbrev pub judge : Sums → List Judged → Offer → Judged
+judge start js o =
+    record {
+      octets = o .octets;
+      number = numberOf (o .octets) (o .rows) (o .levels) (lookback js) (running start js);
+    }
+
+-- the whole list judged, latest first
+unfoldable pub judged : Sums → List Offer → List Judged
+judged start [] = []
+judged start (o ∷ os) = judge start (judged start os) o ∷ judged start os
+
+-- readings above the limit count as the 0 0 0 that start then sets
+abbrev pub startingSums : Sums → Sums
+startingSums s = cond (overLimit s) (sums 0 0 0) s
+
+-- ---- a history in order
+
+-- the list judged, in order
+abbrev pub historyJudged : Sums → List Offer → List Judged
+historyJudged start offers = judged (startingSums start) (reverse offers)
+
+-- the number of each message
+abbrev pub historyNumbers : Sums → List Offer → List ℕ
+historyNumbers start offers = reverse (map (λ (j : Judged). j .number) (historyJudged start offers))
+
+-- the meters: the starting readings plus what the rule works out
+abbrev pub historySums : Sums → List Offer → Sums
+historySums start offers = plus (startingSums start) (workedOut (historyJudged start offers))

@@ -1,0 +1,160 @@
+-- Laws about routing: the known modes, and what a configuration of a known mode means.
+use mathlib.Core.Path.{_≡_, refl, sym, ap, _∙_}
+use Prim.Native.Nat.{ℕ, zero, suc, _+_, _-_, _<_, _≤_}
+use mathlib.Core.Bool.{Bool, true, false, false≢true, cond, not, _&&_, _||_}
+use mathlib.Core.Logic.{_⊎_, inl, inr, ⊎-elim}
+use native.Mathlib.Omega.{arith}
+use lib.Dec.{leb, eqb}
+use lib.ListN.{length, getD, take, length-take}
+use borrow.Author.Tests.{eqb-true, ne-eqb, le-leb}
+use mathlib.Core.List.{List}
+use Rattle.tags.specs.ChoiceLaws.{or-cases, or-true}
+use Rattle.tags.specs.Dictionary.{dictionaryNumber, dictionarySample}
+use Rattle.tags.specs.DictionaryLaws.{accepted-octets}
+use Rattle.tags.specs.Dimmer.{dimmerNumber, dimmerMapping, allInRange, mappingInRange}
+use Rattle.tags.specs.DimmerLaws.{dimmer-mapping-in-range}
+use Rattle.tags.specs.Layout.{sampleOf, subsetsOf, mappingOf, soundLayout, soundDimmer}
+use Rattle.tags.specs.declared.Layout.{Layout}
+use Rattle.tags.specs.declared.Dimmer.{Dimmer}
+use Rattle.receiver.specs.Governing.{Governing, graphic, dimming, routed}
+use Rattle.receiver.specs.Checks.{knownMode, serviceFits, tagsNumber, routingNumber}
+use Rattle.receiver.specs.Record.{governingOf, knownState, consistentAt}
+use Rattle.receiver.specs.Fresh.{emptyLayout, emptyDimmer}
+use Rattle.receiver.specs.Steps.{RoutedTo}
+use Rattle.receiver.specs.declared.Config.{Config}
+use Rattle.receiver.specs.declared.route.Found.{Found}
+
+-- ---- the modes one by one
+
+module _ (P : ℕ → Type 0) where
+  at-eqb : (mode n : ℕ) → P n → eqb mode n ≡ true → P mode
+  at-eqb mode n p e = rw (eqb-true mode n e) p
+
+  pub graphic-cases : (mode : ℕ) → graphic mode ≡ true → P 1 → P 2 → P mode
+  graphic-cases mode e p q = ⊎-elim (at-eqb mode 1 p) (at-eqb mode 2 q) (or-cases (eqb mode 1) (eqb mode 2) e)
+
+  pub dimming-cases : (mode : ℕ) → dimming mode ≡ true → P 4 → P 6 → P mode
+  dimming-cases mode e p q = ⊎-elim (at-eqb mode 4 p) (at-eqb mode 6 q) (or-cases (eqb mode 4) (eqb mode 6) e)
+
+  pub known-cases : (mode : ℕ) → knownMode mode ≡ true → P 0 → P 1 → P 2 → P 4 → P 6 → P mode
+  known-cases mode e p0 p1 p2 p4 p6 =
+      ⊎-elim
+      (λ k. ⊎-elim (at-eqb mode 0 p0) (λ g. graphic-cases mode g p1 p2) (or-cases (eqb mode 0) (graphic mode) k))
+      (λ d. dimming-cases mode d p4 p6)
+      (or-cases (eqb mode 0 || graphic mode) (dimming mode) e)
+
+pub known-le : (mode : ℕ) → knownMode mode ≡ true → mode ≤ 6
+known-le mode e = known-cases (λ m. m ≤ 6) mode e (omega arith) (omega arith) (omega arith) (omega arith) (omega arith)
+
+pub known-state : (mode : ℕ) → knownMode mode ≡ true → knownState (mode + 1) ≡ true
+known-state mode e = known-cases (λ m. knownState (m + 1) ≡ true) mode e refl refl refl refl refl
+
+pub graphic-not-dimming : (mode : ℕ) → graphic mode ≡ true → dimming mode ≡ false
+graphic-not-dimming mode e = graphic-cases (λ m. dimming m ≡ false) mode e refl refl
+
+-- ---- a configuration that is open
+
+-- what a configuration with the state of a mode means
+pub governing-open : (k : Config) (mode : ℕ) → k .state ≡ mode + 1
+    → governingOf k
+    ≡ record {
+      isOpen = true;
+      mode = mode;
+      match = k .«match_bits»;
+      sample = sampleOf (k .layout);
+      mapping = mappingOf (k .dimmer);
+    }
+unfolding governingOf
+governing-open k mode e =
+    let not-closed : eqb (mode + 1) 0 ≡ false = ne-eqb (mode + 1) 0 (omega arith) in
+    let less : mode + 1 - 1 ≡ mode = omega arith in
+    rw (e, not-closed, less)
+
+-- a known state with its counts within the arrays is consistent, where a graphic one has an octet
+pub consistent-open : (k : Config) → knownState (k .state) ≡ true → soundLayout (k .layout) → k .dimmer .count ≤ 32
+    → mappingInRange (mappingOf (k .dimmer)) ≡ true → (1 ≤ k .layout .width) ⊎ (eqb (k .state) 2 || eqb (k .state) 3 ≡ false) → consistentAt k ≡ true
+unfolding consistentAt
+consistent-open k known l d ranged w =
+    rw (known, le-leb (k .layout .width) 32 (l .0), le-leb (k .layout .colours) 8 (l .1), le-leb (k .dimmer .count) 32 d, wide w, ranged)
+  where
+    wide : (1 ≤ k .layout .width) ⊎ (eqb (k .state) 2 || eqb (k .state) 3 ≡ false)
+        → leb 1 (k .layout .width) || not (eqb (k .state) 2 || eqb (k .state) 3) ≡ true
+    wide (inl h) = rw (le-leb 1 (k .layout .width) h)
+    wide (inr e) = rw e (or-true (leb 1 (k .layout .width)))
+
+-- ---- each way through the checks of a routing
+
+module _ (mode service match : ℕ) (tags : List ℕ) where
+  -- the configuration of the routing, of a layout and a mapping
+  abbrev pub configured : Layout → Dimmer → Config
+  configured l d = record { state = mode + 1; «match_bits» = match; layout = l; dimmer = d }
+
+  -- a refusal finds nothing that governs
+  refused-found : (f : Found) (n : ℕ) → f .number ≡ suc n → suc n ≡ routingNumber mode service tags → RoutedTo mode service match tags f
+  refused-found f n e q =
+      record { number = e ∙ q; config = λ z. absurd (zero-suc (sym z ∙ e)); sound = λ z. absurd (zero-suc (sym z ∙ e)) }
+    where
+      zero-suc : 0 ≡ suc n → ⊥
+      zero-suc z = omega arith
+
+  pub found-unknown : (f : Found) → f .number ≡ 6 → knownMode mode ≡ false → RoutedTo mode service match tags f
+  unfolding routingNumber
+  found-unknown f e k = refused-found f 5 e (rw k)
+
+  module _ (known : knownMode mode ≡ true) where
+    pub found-misfit : (f : Found) → f .number ≡ 7 → serviceFits mode service ≡ false → RoutedTo mode service match tags f
+    unfolding routingNumber
+    found-misfit f e k = refused-found f 6 e (rw (known, k))
+
+    module _ (fits : serviceFits mode service ≡ true) where
+      pub found-graphic : (n : ℕ) (l : Layout) → graphic mode ≡ true → n ≡ dictionaryNumber mode tags
+          → sampleOf l ≡ dictionarySample mode tags → soundLayout l
+          → RoutedTo mode service match tags (record { number = n; config = configured l emptyDimmer })
+      unfolding routingNumber tagsNumber routed subsetsOf allInRange
+      found-graphic n l g e sample sound =
+          record {
+            number = rw (known, fits, g) e;
+            config = λ z. rw (governing-open (configured l emptyDimmer) mode refl, g, graphic-not-dimming mode g, sample);
+            sound = λ z.
+                consistent-open (configured l emptyDimmer) (known-state mode known) sound (omega arith) refl
+                (inl (wide (rw (← sample) at (accepted-octets mode tags (sym e ∙ z)))));
+          }
+        where
+          wide : 1 ≤ length (take (l .width) (l .roles)) → 1 ≤ l .width
+          wide h = omega (arith, rw length-take at h)
+
+      pub found-dimming : (n : ℕ) (d : Dimmer) → graphic mode ≡ false → dimming mode ≡ true → n ≡ dimmerNumber tags
+          → mappingOf d ≡ dimmerMapping tags → soundDimmer d → ((k : ℕ) → getD tags k 0 < 256)
+          → RoutedTo mode service match tags (record { number = n; config = configured emptyLayout d })
+      unfolding routingNumber tagsNumber routed
+      found-dimming n d g m e mapping sound octets =
+          record {
+            number = rw (known, fits, g, m) e;
+            config = λ z. rw (governing-open (configured emptyLayout d) mode refl, g, m, mapping);
+            sound = λ z.
+                consistent-open (configured emptyLayout d) (known-state mode known) (omega arith) sound (ap mappingInRange mapping ∙ dimmer-mapping-in-range tags octets)
+                (inr (dimming-cases (λ k. eqb (k + 1) 2 || eqb (k + 1) 3 ≡ false) mode m refl refl));
+          }
+
+      -- neither: mode 0
+      pub found-void : graphic mode ≡ false → dimming mode ≡ false
+          → RoutedTo mode service match tags (record { number = 0; config = configured emptyLayout emptyDimmer })
+      unfolding routingNumber tagsNumber routed subsetsOf allInRange
+      found-void g m =
+          record {
+            number = rw (known, fits, g, m);
+            config = λ z. rw (governing-open (configured emptyLayout emptyDimmer) mode refl, g, m);
+            sound = λ z.
+                consistent-open (configured emptyLayout emptyDimmer) (known-state mode known) (omega arith) (omega arith) refl
+                (inr (rw (is-zero g m)));
+          }
+        where
+          clash : (b : Bool) → b ≡ false → b ≡ true → mode ≡ 0
+          clash b p q = absurd (false≢true (sym p ∙ q))
+
+          is-zero : graphic mode ≡ false → dimming mode ≡ false → mode ≡ 0
+          is-zero g m =
+              ⊎-elim
+              (λ a. ⊎-elim (eqb-true mode 0) (clash (graphic mode) g) (or-cases (eqb mode 0) (graphic mode) a))
+              (clash (dimming mode) m)
+              (or-cases (eqb mode 0 || graphic mode) (dimming mode) known)

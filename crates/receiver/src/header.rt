@@ -1,0 +1,131 @@
+// The header of a message, and checks 2 to 5. Each function reads the octets alone, so each is total: an octet past the end reads as
+// 0, as in the definitions.
+use super::ChannelId;
+use super::ServiceId;
+ghost use mathlib.Core.Path.{_≡_};
+ghost use mathlib.Core.Bool.{cond};
+ghost use Prim.Native.Nat.{_+_, _*_, _≤_, _<_};
+ghost use lib.ListN.{getD, length};
+ghost use Rattle.receiver.specs.Header.{headerOf};
+ghost use Rattle.receiver.specs.Message.{dataStart, tagsOf, dataOf};
+ghost use Rattle.receiver.specs.Checks.{frameNumber, wrongLength};
+
+// The largest message, "above 65,280" is refused.
+const LARGEST: usize = 65280;
+
+pub struct Header {
+    pub channel: ChannelId,
+    pub chunk: u8,
+    pub timestamp: u32,
+    pub routing: bool,
+    pub close: bool,
+    pub match_bits: u8,
+    pub service: ServiceId,
+    pub mode: u8,
+    pub start: usize,
+}
+
+// The octet at a place, 0 past the end.
+pub fn octet(m: &[u8], at: usize) -> u8
+    ensures { λ r. ⌜ r ≡ getD (now (m .entry)) at 0 ⌝ }
+{
+    if at < m.len() { m[at] } else { 0 }
+}
+
+// Two octets, big-endian.
+fn be16(a: u8, b: u8) -> usize
+    ensures { λ r. ⌜ r ≡ a * 256 + b ⌝ }
+{
+    (a as usize) * 256 + (b as usize)
+}
+
+// Four octets, big-endian.
+fn be32(a: u8, b: u8, c: u8, d: u8) -> u32
+    ensures { λ r. ⌜ r ≡ a * 16777216 + b * 65536 + c * 256 + d ⌝ }
+{
+    (a as u32) * 16777216 + (b as u32) * 65536 + (c as u32) * 256 + (d as u32)
+}
+
+// Where the data section starts: behind the header, the configuration header, or the configuration words of a Routing.
+fn start_of(configured: bool, routing: bool, words: u8) -> usize
+    ensures { λ r. ⌜ r ≡ cond configured (12 + cond routing (words * 4) 0) 8 ⌝ }
+{
+    if configured {
+        if routing {
+            return 12 + (words as usize) * 4;
+        }
+        return 12;
+    }
+    8
+}
+
+// The header whole.
+pub fn read(m: &[u8]) -> Header
+    ensures { λ r. ⌜ r ≡ headerOf (now (m .entry)) ⌝ }
+{
+    let content = octet(m, 2);
+    let flags = octet(m, 9);
+    let configured = content / 64 % 2 == 1;
+    let routing = configured & (flags % 2 == 1);
+    let close = configured & (flags / 2 % 2 == 1);
+    let start = start_of(configured, routing, octet(m, 8));
+    let timestamp = be32(octet(m, 4), octet(m, 5), octet(m, 6), octet(m, 7));
+    Header {
+        channel: ChannelId(content % 64),
+        chunk: octet(m, 3),
+        timestamp,
+        routing,
+        close,
+        match_bits: flags / 16 % 4,
+        service: ServiceId(octet(m, 10)),
+        mode: octet(m, 11),
+        start,
+    }
+}
+
+// Check 2: the length is below 8, above 65,280, or not Total Size.
+pub fn wrong_length(m: &[u8]) -> bool
+    ensures { λ r. ⌜ r ≡ wrongLength (now (m .entry)) ⌝ }
+{
+    let n = m.len();
+    let size = be16(octet(m, 0), octet(m, 1));
+    (n < 8) | (LARGEST < n) | (n != size)
+}
+
+// Checks 2 to 5: the number that refuses the frame of the message, or 0.
+pub fn frame_number(m: &[u8]) -> u8
+    ensures { λ r. ⌜ r ≡ frameNumber (now (m .entry)) ⌝ }
+{
+    let n = m.len();
+    let wrong = wrong_length(m);
+    if wrong {
+        return 2;
+    }
+    let top_clear = octet(m, 2) / 128 == 0;
+    if top_clear {
+        return 3;
+    }
+    let kind = octet(m, 3);
+    let known = (kind <= 2) | (kind == 24);
+    if !known {
+        return 4;
+    }
+    let h = read(m);
+    let short = n < h.start;
+    if short {
+        return 5;
+    }
+    0
+}
+
+// The data section as a part of the message, from where the header says it starts; empty where that lies past the end.
+pub fn chunk_of(m: &[u8], start: usize) -> &[u8]
+    requires { ⌜ start ≡ dataStart (now m) ⌝ }
+    ensures { λ r. ⌜ now r ≡ dataOf (now (m .entry)) ⌝ }
+{
+    if start <= m.len() {
+        &m[start..]
+    } else {
+        &m[..0]
+    }
+}

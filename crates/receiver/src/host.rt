@@ -1,0 +1,56 @@
+// The receiver as a C host calls it: structs by value, slices as a pointer and a length. Each call is the receiver's own, with its whole
+// promise; the host owes valid pointers and lengths and nothing else.
+use super::Outcome;
+use super::Readings;
+use super::Receiver;
+use super::section;
+ghost use mathlib.Core.Path.{_≡_};
+ghost use lib.ListN.{length};
+ghost use Rattle.receiver.specs.Checks.{sums};
+ghost use Rattle.receiver.specs.Contract.{Started, messageNumber, Answered, readingsOf};
+ghost use Rattle.receiver.specs.Section.{spanOf};
+
+// Where the data section stands in a message: its first octet and its length. A part of a slice cannot be returned to C.
+#[repr(C)]
+pub struct Span {
+    pub start: usize,
+    pub length: usize,
+}
+
+#[no_mangle]
+pub extern "C" fn mewkoast_start(lit: u64, points: u64, lit_points: u64) -> Outcome
+    ensures { λ o. ⌜ Started (sums lit points «lit_points») o ⌝ }
+{
+    Receiver::start(lit, points, lit_points)
+}
+
+#[no_mangle]
+pub extern "C" fn mewkoast_message(
+    receiver: Receiver,
+    octets: &[u8],
+    rows: &mut [i32],
+    levels: &mut [u8],
+) -> Outcome
+    ensures { λ o. ⌜ Answered (messageNumber receiver (now (octets .entry)) (length (now (rows .entry))) (length (now (levels .entry)))) receiver (now (octets .entry)) (now (rows .entry)) (now (levels .entry)) o (now (rows .exit)) (now (levels .exit)) ⌝ }
+{
+    receiver.message(octets, rows, levels)
+}
+
+#[no_mangle]
+pub extern "C" fn mewkoast_readings(receiver: Receiver) -> Readings
+    ensures { λ r. ⌜ r ≡ readingsOf receiver ⌝ }
+{
+    receiver.readings()
+}
+
+#[no_mangle]
+pub extern "C" fn mewkoast_data_section(octets: &[u8]) -> Span
+    ensures { λ r. ⌜ r ≡ spanOf (now (octets .entry)) ⌝ }
+{
+    let start = section::section_start(octets);
+    let part = section::data_section(octets);
+    Span {
+        start,
+        length: part.len(),
+    }
+}

@@ -1,0 +1,95 @@
+// Checks 6 to 14: what a message with Routing brings.
+use super::Config;
+use super::ServiceId;
+use super::record::no_dimmer;
+use super::record::no_layout;
+ghost use mathlib.Core.Path.{_≡_};
+ghost use Rattle.receiver.specs.Checks.{knownMode, serviceFits};
+ghost use Rattle.receiver.specs.Steps.{RoutedTo};
+
+// A number, and where it is 0 what governs.
+pub struct Found {
+    pub number: u8,
+    pub config: Config,
+}
+
+fn known_mode(mode: u8) -> bool
+    ensures { λ r. ⌜ r ≡ knownMode mode ⌝ }
+{
+    (mode == 0) | ((mode == 1) | (mode == 2)) | ((mode == 4) | (mode == 6))
+}
+
+fn service_fits(mode: u8, service: ServiceId) -> bool
+    ensures { λ r. ⌜ r ≡ serviceFits mode (service .0) ⌝ }
+{
+    let s = service.0;
+    (s == 0) | ((s == 1) & !(mode == 6)) | ((s == 2) & ((mode == 6) | (mode == 0)))
+}
+
+// A refusal, with nothing that governs.
+pub fn none_found(number: u8) -> Found
+    ensures { λ r. ⌜ r .number ≡ number ⌝ }
+{
+    let layout = no_layout();
+    let dimmer = no_dimmer();
+    let config = Config {
+        state: 0,
+        match_bits: 0,
+        layout,
+        dimmer,
+    };
+    Found { number, config }
+}
+
+pub fn route(mode: u8, service: ServiceId, match_bits: u8, tags: &[u8]) -> Found
+    ensures { λ r. ⌜ RoutedTo mode (service .0) «match_bits» (now (tags .entry)) r ⌝ }
+{
+    let known = known_mode(mode);
+    if !known {
+        return none_found(6);
+    }
+    let fits = service_fits(mode, service);
+    if !fits {
+        return none_found(7);
+    }
+    let graphic = (mode == 1) | (mode == 2);
+    if graphic {
+        let checked = tags::dictionary::check(mode, tags);
+        let layout = checked.layout;
+        let dimmer = no_dimmer();
+        let config = Config {
+            state: mode + 1,
+            match_bits,
+            layout,
+            dimmer,
+        };
+        return Found {
+            number: checked.number,
+            config,
+        };
+    }
+    let layout = no_layout();
+    let dims = (mode == 4) | (mode == 6);
+    if dims {
+        let mapped = tags::dimming::check(tags);
+        let dimmer = mapped.dimmer;
+        let config = Config {
+            state: mode + 1,
+            match_bits,
+            layout,
+            dimmer,
+        };
+        return Found {
+            number: mapped.number,
+            config,
+        };
+    }
+    let dimmer = no_dimmer();
+    let config = Config {
+        state: mode + 1,
+        match_bits,
+        layout,
+        dimmer,
+    };
+    Found { number: 0, config }
+}

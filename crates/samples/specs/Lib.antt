@@ -1,0 +1,4 @@
+pub mod Roles
+pub mod Row
+pub mod Points
+pub mod Codes

@@ -1,0 +1,36 @@
+-- The samples of a chunk as rows of the lent slice (document 01, "One row"): rows of one fixed size from its start, the rest
+-- unchanged; and how many of the points are lit.
+use Prim.Native.Nat.{ℕ, zero, suc, _+_, _*_, _/_}
+use mathlib.Core.Bool.{Bool, cond}
+use mathlib.Core.List.{List, [], _++_}
+use lib.ListN.{length, take, drop}
+use lib.Dec.{leb}
+use lib.IntN.{ℤ}
+use Rattle.samples.specs.Row.{rowOf, litOf}
+
+-- how many whole samples the octets hold; none where a sample has no octet (a number divided by 0 is 0 here)
+abbrev pub pointsIn : List ℕ → List ℕ → ℕ
+pointsIn roles octets = length octets / length roles
+
+-- sample i, counted from 0
+abbrev pub sampleAt : List ℕ → List ℕ → ℕ → List ℕ
+sampleAt roles octets i = take (length roles) (drop (i * length roles) octets)
+
+-- the rows of the first n samples, one behind the other
+unfoldable pub rowsOf : List ℕ → List ℕ → List ℕ → ℕ → List ℤ
+rowsOf roles waves octets zero = []
+rowsOf roles waves octets (suc n) = rowsOf roles waves octets n ++ rowOf roles waves (sampleAt roles octets n)
+
+-- how many of the first n samples are lit
+unfoldable pub litIn : List ℕ → List ℕ → ℕ → ℕ
+litIn roles octets zero = 0
+litIn roles octets (suc n) = litIn roles octets n + cond (litOf roles (sampleAt roles octets n)) 1 0
+
+-- the lent rows after the points were written: theirs from the start, and behind them what stood there
+abbrev pub drawnOver : List ℕ → List ℕ → List ℕ → List ℤ → List ℤ
+drawnOver roles waves octets rows =
+    rowsOf roles waves octets (pointsIn roles octets) ++ drop (pointsIn roles octets * 24) rows
+
+-- the lent rows have room for every point
+abbrev pub roomFor : List ℕ → List ℕ → List ℤ → Bool
+roomFor roles octets rows = leb (pointsIn roles octets * 24) (length rows)

@@ -1,0 +1,18 @@
+-- `tags::rows::points` meets its contract: a number divided by 0 is 0.
+use borrow.Author.Needs.{needs}
+use mathlib.Core.Path.{_≡_, sym, ap, _∙_}
+use Prim.Native.Nat.{ℕ, _/_}
+use native.Mathlib.Nat.{div-zero}
+use Rattle.tags.proofs.rows.points.Statement.{statement}
+use Rattle.tags.proofs.rows.points.Tie as tie
+use Rattle.tags.proofs.rows.points.Reads as reads
+use Rattle.tags.proofs.rows.points.Lts as lts
+
+returns : tie.Need-returns
+returns c = rw (← c .before .octets-of .ensures, c .if1 .taken) (sym (div-zero _))
+
+returns-2 : tie.Need-returns-2
+returns-2 c = rw (← c .before .octets-of .ensures)
+
+pub points-spec : {M : Type 1} → statement M
+points-spec = tie.close (tie.spec (λ c κs. search needs) returns (λ c. search needs) returns-2)

@@ -1,0 +1,72 @@
+-- Laws about tests and about checks in a row, for every crate that puts checks in order.
+use mathlib.Core.Path.{_≡_, refl, sym, ap, _∙_}
+use Prim.Native.Nat.{ℕ, zero, suc}
+use mathlib.Core.Bool.{Bool, true, false, false≢true, cond, not, _&&_, _||_}
+use mathlib.Core.Logic.{_⊎_, inl, inr}
+use native.Mathlib.Omega.{arith}
+use lib.Dec.{eqb, eqb·suc-zero}
+use borrow.Author.Tests.{eqb-true, eq-eqb, not-true}
+use Rattle.tags.specs.Choice.{refuse, first}
+
+-- ---- tests
+
+pub and-left : (a b : Bool) → (a && b) ≡ true → a ≡ true
+and-left true b e = refl
+and-left false b e = e
+
+pub and-right : (a b : Bool) → (a && b) ≡ true → b ≡ true
+and-right true b e = e
+and-right false b e = absurd (false≢true e)
+
+pub and-false : (a b : Bool) → (a && b) ≡ false → a ≡ true → b ≡ false
+and-false a b p q = rw q at p
+
+pub or-cases : (a b : Bool) → (a || b) ≡ true → (a ≡ true) ⊎ (b ≡ true)
+or-cases true b e = inl refl
+or-cases false b e = inr e
+
+pub or-true : (a : Bool) → (a || true) ≡ true
+or-true true = refl
+or-true false = refl
+
+pub or-false-left : (a b : Bool) → (a || b) ≡ false → a ≡ false
+or-false-left true b p = p
+or-false-left false b p = refl
+
+pub or-false-right : (a b : Bool) → (a || b) ≡ false → b ≡ false
+or-false-right a b p = rw (or-false-left a b p) at p
+
+-- ---- checks in a row
+
+-- no refusal: neither the earlier check nor the later one refuses
+pub first-zero-left : (n m : ℕ) → first n m ≡ 0 → n ≡ 0
+first-zero-left zero m p = refl
+first-zero-left (suc n) m p = rw (eqb·suc-zero n) at p
+
+pub first-zero-right : (n m : ℕ) → first n m ≡ 0 → m ≡ 0
+first-zero-right n m p = rw (eq-eqb n 0 (first-zero-left n m p)) at p
+
+-- a check with none behind it
+pub first-none : (n : ℕ) → first n 0 ≡ n
+first-none zero = refl
+first-none (suc n) = rw (eqb·suc-zero n)
+
+-- a check that refuses ends the row
+pub first-refuses : (n m : ℕ) → eqb n 0 ≡ false → first n m ≡ n
+first-refuses n m e = rw e
+
+pub first-assoc : (a b c : ℕ) → first a (first b c) ≡ first (first a b) c
+first-assoc zero b c = refl
+first-assoc (suc a) b c = rw (eqb·suc-zero a) (sym (first-refuses (suc a) c (eqb·suc-zero a)))
+
+-- a check that gives 0 did not hold
+pub refuse-zero : (b : Bool) (n : ℕ) → refuse b (suc n) ≡ 0 → b ≡ false
+refuse-zero true n p = let z : suc n ≡ 0 = p in absurd (omega arith)
+refuse-zero false n p = refl
+
+-- a number that refuses is not 0
+pub not-zero : (k n : ℕ) → k ≡ suc n → k ≡ 0 → ⊥
+not-zero k n e z = omega arith
+
+pub refused-not-zero : (n : ℕ) → not (eqb n 0) ≡ true → n ≡ 0 → ⊥
+refused-not-zero n e z = false≢true (sym (not-true (eqb n 0) e) ∙ eq-eqb n 0 z)

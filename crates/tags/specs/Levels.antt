@@ -1,0 +1,75 @@
+-- Levels to places (document 01, "Dimmer tags, modes 4 and 6" and check 21): which octets of a dimmer chunk go to which of the 1,024
+-- lent places.
+use Prim.Native.Nat.{ℕ, _+_, _-_}
+use mathlib.Core.Bool.{Bool, cond, not, _&&_, _||_}
+use mathlib.Core.List.{List, [], _∷_, _++_}
+use lib.ListN.{length, take, drop}
+use lib.Dec.{ltb, leb, eqb}
+use Rattle.tags.specs.Dimmer.{Mapping, baseOf, countOf, dropped}
+
+-- the base of the contiguous set: that of the 42, and "with neither 42 nor 43 the base is 1"
+abbrev pub wholeBase : Mapping → ℕ
+wholeBase m = cond (eqb (m .base) 0) 1 (m .base)
+
+-- the octets that the 43s describe, dropped ones included
+unfoldable pub countSum : List ℕ → ℕ
+countSum [] = 0
+countSum (e ∷ es) = countOf e + countSum es
+
+-- check 21 passes for n levels: "With 43, levels differ from the sum of all counts, dropped ones included; without 43, base +
+-- levels passes 513 (FFFF excepted)" does not hold
+unfoldable pub levelsFit : Mapping → ℕ → Bool
+levelsFit m n =
+    cond (eqb (length (m .subsets)) 0)
+    (leb (wholeBase m + n) 513 || dropped (wholeBase m))
+    (eqb n (countSum (m .subsets)))
+
+-- "Level number b is place b - 1 of the lent levels for mode 4, place 511 + b for mode 6"
+abbrev pub placeOfLevel : ℕ → ℕ → ℕ
+placeOfLevel mode b = cond (eqb mode 6) (511 + b) (b - 1)
+
+-- the levels with `part` written from level number b on; nothing for FFFF, nor where the part would pass the end
+unfoldable pub putLevels : ℕ → ℕ → List ℕ → List ℕ → List ℕ
+putLevels mode b part levels =
+    cond (not (dropped b) && leb (placeOfLevel mode b + length part) (length levels))
+    (take (placeOfLevel mode b) levels ++ part ++ drop (placeOfLevel mode b + length part) levels)
+    levels
+
+-- the 43s in order, each taking its count of the octets from the front
+unfoldable pub putSubsets : ℕ → List ℕ → List ℕ → List ℕ → List ℕ
+putSubsets mode [] octets levels = levels
+putSubsets mode (e ∷ es) octets levels =
+    putSubsets mode es (drop (countOf e) octets) (putLevels mode (baseOf e) (take (countOf e) octets) levels)
+
+-- the lent levels after the octets of an accepted dimmer chunk
+unfoldable pub levelsAfter : ℕ → Mapping → List ℕ → List ℕ → List ℕ
+levelsAfter mode m octets levels =
+    cond (eqb (length (m .subsets)) 0)
+    (putLevels mode (wholeBase m) octets levels)
+    (putSubsets mode (m .subsets) octets levels)
+
+-- how many octets the 43s map, "dropped ones don't count as written"
+unfoldable pub mappedSum : List ℕ → ℕ
+mappedSum [] = 0
+mappedSum (e ∷ es) = cond (dropped (baseOf e)) 0 (countOf e) + mappedSum es
+
+-- levels written, of n levels in the chunk
+unfoldable pub levelsWritten : Mapping → ℕ → ℕ
+levelsWritten m n =
+    cond (eqb (length (m .subsets)) 0) (cond (dropped (wholeBase m)) 0 n) (mappedSum (m .subsets))
+
+-- ---- what the writing of levels does, check 21 included: where the octets do not fit, nothing is written and 0 are counted
+
+unfoldable pub levelsDrawn : ℕ → Mapping → List ℕ → List ℕ → List ℕ
+levelsDrawn mode m octets levels = cond (levelsFit m (length octets)) (levelsAfter mode m octets levels) levels
+
+unfoldable pub levelsCounted : Mapping → ℕ → ℕ
+levelsCounted m n = cond (levelsFit m n) (levelsWritten m n) 0
+
+-- ---- for a C host, with check 22: where fewer than 1,024 places are lent, nothing is written and 0 are counted
+
+unfoldable pub hostLevels : ℕ → Mapping → List ℕ → List ℕ → List ℕ
+hostLevels mode m octets levels = cond (ltb (length levels) 1024) levels (levelsDrawn mode m octets levels)
+
+unfoldable pub hostWritten : Mapping → ℕ → ℕ → ℕ
+hostWritten m n lent = cond (ltb lent 1024) 0 (levelsCounted m n)

@@ -1,0 +1,14 @@
+pub mod Choice
+pub mod ChoiceLaws
+pub mod Tag
+pub mod Dictionary
+pub mod DictionaryView
+pub mod DictionaryLaws
+pub mod Dimmer
+pub mod Dimming
+pub mod Layout
+pub mod Rows
+pub mod Levels
+pub mod SubsetLaws
+pub mod DimmerLaws
+pub mod LevelsLaws

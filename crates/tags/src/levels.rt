@@ -1,0 +1,175 @@
+// Levels to places (document 01, "Dimmer tags, modes 4 and 6" and check 21): the octets of a dimmer chunk go to the lent levels as
+// the mapping says. specs/Levels.antt has the definitions. Any dimmer record is taken: a count above 32 is read as 32.
+use crate::Dimmer;
+use crate::dimming::base_in_range;
+use crate::dimming::count_in_range;
+ghost use mathlib.Core.Path.{_≡_};
+ghost use mathlib.Core.Bool.{cond, _||_};
+ghost use mathlib.Core.List.{_++_};
+ghost use Prim.Native.Nat.{_+_, _<_, _≤_, _^_, min};
+ghost use lib.ListN.{length, take, drop};
+ghost use lib.Dec.{leb};
+ghost use Rattle.tags.specs.Dimmer.{dropped, mappingInRange};
+ghost use Rattle.tags.specs.Layout.{mappingOf};
+ghost use Rattle.tags.specs.Levels.{wholeBase, countSum, mappedSum, levelsFit, placeOfLevel, putLevels, putSubsets, levelsDrawn, levelsCounted};
+
+// how many subsets the record holds
+fn held(dimmer: Dimmer) -> usize
+    ensures { λ r. ⌜ (r ≡ length (mappingOf dimmer .subsets)) × (r ≡ min (dimmer .count) 32) ⌝ }
+{
+    if dimmer.count < 32 {
+        return dimmer.count as usize;
+    }
+    32
+}
+
+// the base of the contiguous set, where there is no 43
+fn whole_base(dimmer: Dimmer) -> u16
+    ensures { λ r. ⌜ r ≡ wholeBase (mappingOf dimmer) ⌝ }
+{
+    if dimmer.base == 0 {
+        return 1;
+    }
+    dimmer.base
+}
+
+// Check 21 without 43. Above 513 octets no base is added, so that no sum wraps.
+fn whole_fits(base: u16, octets: usize) -> bool
+    ensures { λ r. ⌜ r ≡ (leb (base + octets) 513 || dropped base) ⌝ }
+{
+    let drops = base == 0xFFFF;
+    if 513 < octets {
+        return drops;
+    }
+    (base as usize + octets <= 513) | drops
+}
+
+// the octets that the subsets describe, dropped ones included
+fn count_sum(dimmer: Dimmer) -> usize
+    ensures { λ r. ⌜ r ≡ countSum (mappingOf dimmer .subsets) ⌝ }
+{
+    let n = held(dimmer);
+    let mut sum: usize = 0;
+    let mut j: usize = 0;
+    while j < n {
+        sum += dimmer.counts[j] as usize;
+        j += 1;
+    }
+    sum
+}
+
+// Check 21: whether that many levels go with the mapping.
+pub fn fit(dimmer: Dimmer, octets: usize) -> bool
+    ensures { λ r. ⌜ r ≡ levelsFit (mappingOf dimmer) octets ⌝ }
+{
+    if held(dimmer) == 0 {
+        return whole_fits(whole_base(dimmer), octets);
+    }
+    octets == count_sum(dimmer)
+}
+
+// how many of `octets` levels from that base on are written
+fn counted(base: u16, octets: usize) -> usize
+    ensures { λ r. ⌜ r ≡ cond (dropped base) 0 octets ⌝ }
+{
+    let dropped = base == 0xFFFF;
+    if dropped {
+        return 0;
+    }
+    octets
+}
+
+// the place of level number `base`: mode 6 has the upper half of the levels
+fn place_of(mode: u8, base: u16) -> usize
+    ensures { λ r. ⌜ (r ≡ placeOfLevel mode base) × (r < 2 ^ 17) ⌝ }
+{
+    if mode == 6 {
+        return 511 + base as usize;
+    }
+    if base == 0 {
+        return 0;
+    }
+    base as usize - 1
+}
+
+// `part` copied into the levels from `place` on
+fn copy(part: &[u8], levels: &mut [u8], place: usize)
+    requires { ⌜ place + length (now part) ≤ length (now levels) ⌝ }
+    ensures { λ _. ⌜ now (levels .exit) ≡ take place (now (levels .entry)) ++ now (part .entry) ++ drop (place + length (now (part .entry))) (now (levels .entry)) ⌝ }
+{
+    let mut j = 0;
+    while j < part.len() {
+        levels[place + j] = part[j];
+        j += 1;
+    }
+}
+
+// `part` written from level number `base` on, where it is within the levels
+fn put(mode: u8, base: u16, part: &[u8], levels: &mut [u8])
+    ensures { λ _. ⌜ now (levels .exit) ≡ putLevels mode base (now (part .entry)) (now (levels .entry)) ⌝ }
+{
+    if base == 0xFFFF {
+        return;
+    }
+    let place = place_of(mode, base);
+    if levels.len() < place + part.len() {
+        return;
+    }
+    copy(part, levels, place);
+}
+
+// The octets of each subset in turn, and how many are written. A dropped subset takes its octets too, so that the next ones have
+// theirs.
+fn put_subsets(dimmer: Dimmer, mode: u8, octets: &[u8], levels: &mut [u8]) -> usize
+    requires { ⌜ length (now octets) ≡ countSum (mappingOf dimmer .subsets) ⌝ }
+    ensures { λ _. ⌜ now (levels .exit) ≡ putSubsets mode (mappingOf dimmer .subsets) (now (octets .entry)) (now (levels .entry)) ⌝ }
+    ensures { λ r. ⌜ r ≡ mappedSum (mappingOf dimmer .subsets) ⌝ }
+{
+    let n = held(dimmer);
+    let mut written: usize = 0;
+    let mut from: usize = 0;
+    let mut j: usize = 0;
+    while j < n {
+        let base = dimmer.bases[j];
+        let count = dimmer.counts[j] as usize;
+        let to = from + count;
+        put(mode, base, &octets[from..to], levels);
+        written += counted(base, count);
+        from = to;
+        j += 1;
+    }
+    written
+}
+
+// The levels of a dimmer chunk written, and how many; where check 21 does not pass, none.
+pub fn write(dimmer: Dimmer, mode: u8, octets: &[u8], levels: &mut [u8]) -> usize
+    ensures { λ _. ⌜ now (levels .exit) ≡ levelsDrawn mode (mappingOf dimmer) (now (octets .entry)) (now (levels .entry)) ⌝ }
+    ensures { λ r. ⌜ r ≡ levelsCounted (mappingOf dimmer) (length (now (octets .entry))) ⌝ }
+{
+    let fits = fit(dimmer, octets.len());
+    if !fits {
+        return 0;
+    }
+    if held(dimmer) == 0 {
+        let base = whole_base(dimmer);
+        put(mode, base, octets, levels);
+        return counted(base, octets.len());
+    }
+    put_subsets(dimmer, mode, octets, levels)
+}
+
+// Whether a mapping is one that the check of dimmer tags can leave: its base and each subset in range. A record that a host kept is held
+// to it.
+pub fn in_range(dimmer: Dimmer) -> bool
+    ensures { λ r. ⌜ r ≡ mappingInRange (mappingOf dimmer) ⌝ }
+{
+    let n = held(dimmer);
+    let mut ok = (dimmer.base == 0) | base_in_range(dimmer.base);
+    let mut j: usize = 0;
+    while j < n {
+        let b = dimmer.bases[j];
+        ok = ok & (base_in_range(b) & count_in_range(b, dimmer.counts[j]));
+        j += 1;
+    }
+    ok
+}

@@ -1,0 +1,295 @@
+/*
+ * The tag layer of the channel receiver, for C hosts.
+ *
+ * Sections: 1 refusal numbers, 2 the dictionary check, 3 samples to rows,
+ * 4 dimmer levels. Checks and limits are those of document 01; the tags are
+ * those of IDN-Stream, Revision 001, 3.4 and 4.4.
+ *
+ * For every function: the octets and tags lent need not be aligned and need
+ * not have been checked; they are not changed, and no pointer is kept. The
+ * slice written must not overlap the one read. Results depend on the
+ * arguments alone, so calls on different slices can run at the same time.
+ */
+#ifndef MEWKOAST_H
+#define MEWKOAST_H
+
+#include <stddef.h>
+#include <stdint.h>
+
+#ifdef __cplusplus
+extern "C" {
+#endif
+
+/* ---- 1. Refusal numbers ------------------------------------------------ */
+
+/*
+ * number   meaning
+ *    5     the length of the dictionary is odd or above 1,020
+ *    6     the mode is neither 1 nor 2
+ *    8     a tag's group is undefined
+ *    9     a tag is unknown, a space value is reserved, or 4101 stands in
+ *          mode 2
+ *   10     precision, prefix or 5000 is misplaced, or a Void passes the end
+ *   11     a signal, hint or space modifier repeats, or it is the 9th colour
+ *          or the 33rd octet
+ *   12     X (4200), Y (4210) or every colour is missing
+ *   13     a dimmer tag is unknown, out of range or passes the end
+ *   14     dimmer tags mix, overlap, repeat 42, or are the 33rd 43
+ *
+ * At each tag 8 to 11 (or 13, 14) are tried in turn, then the next tag
+ * follows. A prefix followed wrongly is 10 at the tag behind it, after 8 and
+ * 9 there. At the end an unfinished prefix is 10; 12 comes last.
+ */
+
+/* ---- 2. The dictionary check ------------------------------------------- */
+
+/*
+ * Checks a tag dictionary for modes 1 and 2.
+ *
+ * The host lends: `tags` points to `length` octets that can be read during
+ * the call.
+ *
+ * Answers, tried in this order:
+ *   106, 105      the mode, then the length is refused;
+ *   108 to 112    100 plus the refusal number of the table above;
+ *   3 to 32       the dictionary is accepted, and this is the sample's width
+ *                 in octets.
+ */
+uint32_t mewkoast_dictionary(uint32_t mode, const uint8_t *tags, size_t length);
+
+/* ---- 3. Samples to rows ------------------------------------------------ */
+
+/* The numbers of a row; the slots are listed at mewkoast_draw. */
+#define MEWKOAST_ROW 24
+
+/*
+ * What an accepted dictionary says of a sample.
+ *
+ *   roles     what octet i of a sample is for:
+ *                 0    nothing, it is ignored;
+ *             s + 1    the first octet of the signal in slot s;
+ *            s + 33    the precision octet of the signal in slot s;
+ *                65    the hint of format 0 (4100);
+ *                66    the hint of format 1 (4101).
+ *             Those behind the width say nothing.
+ *   waves     the wavelength of colour k in nm, 0 where a prefix gives it;
+ *             those behind the colours say nothing.
+ *   space     the space modifier word 11pp, 0 if there is none.
+ *   width     the octets of a sample, 3 to 32.
+ *   colours   the colours, 1 to 8.
+ */
+typedef struct {
+    uint8_t roles[32];
+    uint16_t waves[8];
+    uint16_t space;
+    uint8_t width;
+    uint8_t colours;
+} mewkoast_sample_layout;
+
+/* `number` is 0, or the refusal 6, 5 or 8 to 12; then the layout says nothing. */
+typedef struct {
+    uint8_t number;
+    mewkoast_sample_layout layout;
+} mewkoast_checked_dictionary;
+
+/*
+ * Checks a tag dictionary as mewkoast_dictionary does and gives the layout of
+ * its samples: refusal 6 for modes but 1 and 2, then 5 for odd lengths or
+ * above 1,020, then 8 to 12.
+ *
+ * The host lends: `tags` points to `length` octets that can be read during
+ * the call.
+ */
+mewkoast_checked_dictionary mewkoast_layout(uint32_t mode, const uint8_t *tags,
+                                            size_t length);
+
+/*
+ * Draws samples as rows of 24 numbers, one after the other from the start of
+ * `rows`, and returns how many of the points are lit: those with a colour
+ * slot that is not 0.
+ *
+ * Slots of a row: 0 X, 1 Y, 2 Z, 3 second X, 4 second Y, 5 shutter,
+ * 6 intensity, 7 brush, 8 to 15 the colours in dictionary order, 16 to 23
+ * their wavelengths in 1/64 nm. An absent signal is 0, an absent shutter 1.
+ * Colours and intensity are already divided by the scales of the hint.
+ *
+ * The layout is one that mewkoast_layout gave with the number 0. The host
+ * lends: `octets` points to `n` octets to be read, `rows` to `rows_length`
+ * numbers (not rows) to be written, aligned as int32_t is.
+ *
+ * The points are the whole samples, n / width; octets behind the last whole
+ * sample are not used. Where rows_length is below points * 24 nothing is
+ * written and 0 is returned. Otherwise the first points * 24 numbers are
+ * written and all others are unchanged.
+ */
+size_t mewkoast_draw(mewkoast_sample_layout layout, const uint8_t *octets,
+                     size_t n, int32_t *rows, size_t rows_length);
+
+/* ---- 4. Dimmer levels -------------------------------------------------- */
+
+/* The places of both modes: 0 to 511 for mode 4, 512 to 1,023 for mode 6. */
+#define MEWKOAST_PLACES 1024
+
+/*
+ * What accepted dimmer tags say.
+ *
+ *   bases, counts   the tags 43 in order; a base is 1 to 512, or FFFF for
+ *                   dropped octets, a count 1 to 255. Those behind `count`
+ *                   say nothing.
+ *   base            the base of the tag 42, 0 if there is none.
+ *   count           how many tags 43 there are, 0 to 32.
+ */
+typedef struct {
+    uint16_t bases[32];
+    uint8_t counts[32];
+    uint16_t base;
+    uint8_t count;
+} mewkoast_dimmer_mapping;
+
+/* `number` is 0, or the refusal 13 or 14; then the mapping says nothing. */
+typedef struct {
+    uint8_t number;
+    mewkoast_dimmer_mapping dimmer;
+} mewkoast_checked_mapping;
+
+/*
+ * Checks the dimmer tags of mode 4 or 6 and gives the mapping.
+ *
+ * The host lends: `tags` points to `length` octets that can be read during
+ * the call.
+ */
+mewkoast_checked_mapping mewkoast_mapping(const uint8_t *tags, size_t length);
+
+/*
+ * Puts levels to their places: level number b to place b - 1 in mode 4, to
+ * place 511 + b in mode 6. Returns how many levels were written; dropped
+ * ones do not count. All other places are unchanged.
+ *
+ * With tags 43 the levels must be as many as the sum of all counts, dropped
+ * ones included; without 43, base + n must not pass 513 (a base FFFF
+ * excepted; no 42 is base 1). Where that fails (check 21), or fewer than
+ * 1,024 places are lent (check 22), nothing is written and 0 is returned.
+ *
+ * The mapping is one that mewkoast_mapping gave with the number 0. Every mode
+ * but 6 is taken for 4. The host lends: `octets` points to `n` levels to be
+ * read, `levels` to `levels_length` places to be written.
+ */
+size_t mewkoast_levels(mewkoast_dimmer_mapping dimmer, uint8_t mode,
+                       const uint8_t *octets, size_t n, uint8_t *levels,
+                       size_t levels_length);
+
+/* ---- 5. The receiver ---------------------------------------------------- */
+
+/*
+ * The receiver is a value: 64 channels and three meters, 9,880 octets. A host
+ * keeps it between calls, copies it as it likes and hands it to the next call;
+ * nothing is kept elsewhere. Its inner fields may change with a version: only
+ * what the calls below give of it is promised.
+ */
+typedef struct {
+    uint8_t states[64];
+    uint8_t matches[64];
+    mewkoast_sample_layout layouts[64];
+    mewkoast_dimmer_mapping dimmers[64];
+    uint64_t lit;
+    uint64_t points;
+    uint64_t lit_points;
+} mewkoast_receiver;
+
+/*
+ * The reply to a message. A refusal has 0 in all but the number:
+ *
+ *    1  the record given breaks the consistency rule; it is handed back
+ *    2  the length is below 8, above 65,280, or not Total Size
+ *    3  the top bit of octet 2 is 0
+ *    4  the type is not 0x00, 0x01, 0x02 or 0x18
+ *    5  the configuration header, or with Routing its words, pass the end
+ *    6  with Routing, the mode is not 0, 1, 2, 4 or 6
+ *    7  the service does not go with the mode
+ *    8  a tag's group is undefined
+ *    9  a tag is unknown, a space value reserved, or 4101 in mode 2
+ *   10  precision, prefix or 5000 is misplaced, or a Void passes the end
+ *   11  a signal, hint or space modifier repeats, the 9th colour or 33rd octet
+ *   12  X, Y or every colour is missing
+ *   13  a dimmer tag is unknown, out of range or passes the end
+ *   14  dimmer tags mix, overlap, repeat 42, or are the 33rd 43
+ *   15  with Routing to mode 1, another open channel has mode 1
+ *   16  without Routing, the channel is closed
+ *   17  the type does not go with the mode
+ *   18  a Void chunk has data, or another has under 4 octets
+ *   19  SCM differs from SDM; the channel is closed
+ *   20  samples are not whole, a wave has under 20, or a frame has exactly 1
+ *   21  the levels do not go with the dimmer tags
+ *   22  rows hold under points * 24 numbers, or levels under 1,024 octets
+ *   23  a meter would pass its limit of 36,000,000,000,000,000
+ *
+ * An accepted message has number 0, its channel, chunk type and timestamp, the
+ * space modifier in force (0 if none), its points, lit points and the levels
+ * written.
+ */
+typedef struct {
+    uint8_t number;
+    uint8_t channel;
+    uint8_t chunk;
+    uint32_t timestamp;
+    uint16_t space;
+    uint32_t points;
+    uint32_t lit_points;
+    uint32_t levels;
+} mewkoast_reply;
+
+typedef struct {
+    mewkoast_receiver receiver;
+    mewkoast_reply reply;
+} mewkoast_outcome;
+
+/* Lit microseconds, points, lit points. */
+typedef struct {
+    uint64_t lit;
+    uint64_t points;
+    uint64_t lit_points;
+} mewkoast_meters;
+
+/* A part of a message: its first octet and its length. */
+typedef struct {
+    size_t start;
+    size_t length;
+} mewkoast_span;
+
+/*
+ * A receiver newly started with three readings, every channel closed. Where a
+ * reading is above the limit the reply has number 23 and all three are 0.
+ */
+mewkoast_outcome mewkoast_start(uint64_t lit, uint64_t points,
+                                uint64_t lit_points);
+
+/*
+ * Offers one message. The outcome holds the next receiver and the reply. After
+ * a refusal the lent rows and levels hold what they held; after an acceptance
+ * the decoded points from the start of `rows`, 24 numbers each, or the levels
+ * in their places, and nothing else new.
+ *
+ * The host owes valid pointers and lengths and nothing else: `octets` to
+ * `length` octets to be read, `rows` to `rows_length` numbers and `levels` to
+ * `levels_length` octets to be written, no two of them sharing memory. Any
+ * message, of any length and any octets, and any record get a reply.
+ */
+mewkoast_outcome mewkoast_message(mewkoast_receiver receiver,
+                                  const uint8_t *octets, size_t length,
+                                  int32_t *rows, size_t rows_length,
+                                  uint8_t *levels, size_t levels_length);
+
+/* The three readings of a record as they stand. */
+mewkoast_meters mewkoast_readings(mewkoast_receiver receiver);
+
+/*
+ * Where the data section of a message stands: from octet 8, 12 or
+ * 12 + 4 * SCWC to the end; start 0 and length 0 where 2, 3 or 5 applies.
+ */
+mewkoast_span mewkoast_data_section(const uint8_t *octets, size_t length);
+
+#ifdef __cplusplus
+}
+#endif
+
+#endif

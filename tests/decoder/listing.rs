@@ -1,0 +1,50 @@
+//! The listing program's text: document 01, "Calls and layers", "The listing
+//! program reads messages end to end from standard input".
+
+use crate::receiver::{Receiver, Reply};
+
+/// "lends 12,000 numbers and 1,024 octets".
+const NUMBERS: usize = 12_000;
+const OCTETS: usize = 1_024;
+
+/// What the program prints for an input.
+pub fn listing(input: &[u8]) -> String {
+    // "starts at 0 0 0".
+    let (mut receiver, _) = Receiver::start(0, 0, 0);
+    let mut rows = vec![0; NUMBERS];
+    let mut levels = vec![0; OCTETS];
+    let mut text = String::new();
+    let mut rest = input;
+    while !rest.is_empty() {
+        let Some(size) = next(rest) else {
+            // "prints "cut" and the count of octets from there to the end of
+            // the input instead; then only the meters line follows."
+            text += &format!("cut {}\n", rest.len());
+            break;
+        };
+        let (octets, behind) = rest.split_at(size);
+        text += &line(&receiver.message(octets, &mut rows, &mut levels));
+        rest = behind;
+    }
+    // "then "meters" and the readings".
+    let [lit, points, lit_points] = receiver.readings();
+    text + &format!("meters {lit} {points} {lit_points}\n")
+}
+
+/// The size of the next message; none for "A size below 8 or past the end, or
+/// a lone octet".
+fn next(rest: &[u8]) -> Option<usize> {
+    let [high, low, ..] = rest else {
+        return None;
+    };
+    let size = usize::from(u16::from_be_bytes([*high, *low]));
+    (size >= 8 && size <= rest.len()).then_some(size)
+}
+
+/// "channel type number points lit", all five from the reply.
+fn line(reply: &Reply) -> String {
+    format!(
+        "{} {} {} {} {}\n",
+        reply.channel, reply.kind, reply.number, reply.points, reply.lit_points
+    )
+}

@@ -1,0 +1,133 @@
+//! The look-back rule: document 01, "Meters and the look-back rule". Nothing
+//! is kept from message to message but the list itself and the numbers and
+//! additions already worked out for its earlier messages.
+
+use crate::chunk::{self, Lent};
+use crate::message::{self, Channel, Message};
+use crate::receiver::LIMIT;
+use crate::route::{self, Governing};
+
+/// "for each message in order, its octets and the lengths of the slices lent
+/// with it".
+#[derive(Clone, Copy, Debug)]
+pub struct Offered<'a> {
+    pub octets: &'a [u8],
+    pub lent: Lent,
+}
+
+/// What the rule says of one message.
+#[derive(Clone, Copy, Debug, PartialEq, Eq)]
+pub struct Verdict {
+    pub number: u32,
+    /// What the message adds to the three meters; 0 if it is refused.
+    pub adds: [u64; 3],
+}
+
+/// The verdicts of all messages of a list that begins at starting readings
+/// up to the limit.
+pub fn verdicts(start: [u64; 3], list: &[Offered]) -> Vec<Verdict> {
+    let mut earlier: Vec<Verdict> = Vec::new();
+    for offered in list {
+        let past = Past {
+            start,
+            list: &list[..earlier.len()],
+            verdicts: &earlier,
+        };
+        let verdict = match past.adds(offered) {
+            Ok(adds) => Verdict { number: 0, adds },
+            Err(number) => Verdict {
+                number,
+                adds: [0; 3],
+            },
+        };
+        earlier.push(verdict);
+    }
+    earlier
+}
+
+/// "the running sums of the list, which are the starting readings plus what
+/// its accepted messages so far add".
+pub fn sums(start: [u64; 3], verdicts: &[Verdict]) -> [u64; 3] {
+    let sum = |meter: usize| {
+        verdicts
+            .iter()
+            .filter(|verdict| verdict.number == 0)
+            .fold(start[meter], |sum, verdict| sum + verdict.adds[meter])
+    };
+    [sum(0), sum(1), sum(2)]
+}
+
+/// The messages before the one in question.
+struct Past<'a> {
+    start: [u64; 3],
+    list: &'a [Offered<'a>],
+    verdicts: &'a [Verdict],
+}
+
+impl Past<'_> {
+    /// "Acceptance follows the checks below with the running sums of the
+    /// list": what the message adds, or the number that refuses it.
+    fn adds(&self, offered: &Offered) -> Result<[u64; 3], u32> {
+        let message = message::read(offered.octets)?;
+        let governing = self.governing(&message)?;
+        let content = chunk::read(&governing, message.kind, message.data, offered.lent)?;
+        let adds = content.adds();
+        let before = sums(self.start, self.verdicts);
+        if (0..3).any(|meter| before[meter] + adds[meter] > LIMIT) {
+            return Err(23);
+        }
+        Ok(adds)
+    }
+
+    /// "a message with Routing is governed by itself", with checks 6 to 15;
+    /// another by what is in force, with check 16.
+    fn governing(&self, message: &Message) -> Result<Governing, u32> {
+        match &message.routing {
+            None => self.in_force(message.channel).ok_or(16),
+            Some(routing) => {
+                let own = route::check(routing)?;
+                if own.mode == 1 && self.mode_1_elsewhere(message.channel) {
+                    return Err(15);
+                }
+                Ok(own)
+            }
+        }
+    }
+
+    /// "A channel's mode for check 15 is found likewise."
+    fn mode_1_elsewhere(&self, own: Channel) -> bool {
+        (0..64)
+            .map(Channel)
+            .filter(|channel| *channel != own)
+            .filter_map(|channel| self.in_force(channel))
+            .any(|governing| governing.mode == 1)
+    }
+
+    /// "If that one was accepted with Routing and without Close, its mode,
+    /// service, SDM and tags govern; in all other cases the channel is
+    /// closed."
+    fn in_force(&self, channel: Channel) -> Option<Governing> {
+        let (message, number) = self.latest(channel)?;
+        match message.routing {
+            Some(routing) if number == 0 && !message.close => route::check(&routing).ok(),
+            _ => None,
+        }
+    }
+
+    /// "the latest earlier message on its channel that was accepted with
+    /// Routing, accepted with Close, or refused by 19", with its number.
+    fn latest(&self, channel: Channel) -> Option<(Message<'_>, u32)> {
+        let decides = |message: &Message, number: u32| match number {
+            0 => message.routing.is_some() || message.close,
+            _ => number == 19,
+        };
+        self.list
+            .iter()
+            .zip(self.verdicts)
+            .rev()
+            .filter_map(|(offered, verdict)| {
+                Some((message::read(offered.octets).ok()?, verdict.number))
+            })
+            .find(|(message, number)| message.channel == channel && decides(message, *number))
+    }
+}

@@ -1,0 +1,93 @@
+//! Compares the proved receiver with the second one on generated streams.
+//!
+//! usage: receiver_compare [COUNT]
+//!        receiver_compare --write OCTETS LISTING [COUNT [SEED]]
+//!
+//! The first form offers COUNT messages (200,000 if not given). The second
+//! one writes about COUNT generated messages (5,000 if not given) end to end
+//! to the file OCTETS and what the listing program prints for them to the
+//! file LISTING.
+
+mod broken;
+mod calls;
+mod compare;
+mod tally;
+
+use decoder::end_to_end::end_to_end;
+use decoder::generate::stream;
+use decoder::listing::listing;
+use decoder::random::Random;
+use std::process::ExitCode;
+use tally::Tally;
+
+/// The most messages of one stream.
+const LONGEST: usize = 200;
+
+/// Broken records are offered after every so many streams.
+const BETWEEN: usize = 16;
+
+fn main() -> ExitCode {
+    let arguments: Vec<String> = std::env::args().skip(1).collect();
+    let words: Vec<&str> = arguments.iter().map(String::as_str).collect();
+    let done = match words[..] {
+        [] => Some(run(200_000)),
+        ["--write", octets, text] => Some(write(octets, text, 5_000, 1)),
+        ["--write", octets, text, count] => {
+            number(count).map(|count| write(octets, text, count, 1))
+        }
+        ["--write", octets, text, count, seed] => number(count)
+            .zip(number(seed))
+            .map(|(count, seed)| write(octets, text, count, seed as u64)),
+        [count] => number(count).map(run),
+        _ => None,
+    };
+    match done {
+        Some(true) => ExitCode::SUCCESS,
+        Some(false) => ExitCode::FAILURE,
+        None => {
+            eprintln!("usage: receiver_compare [COUNT]");
+            eprintln!("       receiver_compare --write OCTETS LISTING [COUNT [SEED]]");
+            ExitCode::from(2)
+        }
+    }
+}
+
+fn number(word: &str) -> Option<usize> {
+    word.parse().ok()
+}
+
+/// Offers messages of generated streams; true if nothing differed and every
+/// number occurred.
+fn run(count: usize) -> bool {
+    let mut tally = Tally::default();
+    let opened = broken::opened(&mut tally);
+    broken::offer(&opened, &mut tally);
+    let mut streams = 0;
+    while tally.messages < count {
+        let mut random = Random::new(streams as u64);
+        let mut next = stream(&mut random, LONGEST);
+        next.offers.truncate(count - tally.messages);
+        let last = compare::stream(&next, &format!("stream {streams}"), &mut tally);
+        if streams % BETWEEN == 0 {
+            broken::offer(&last, &mut tally);
+        }
+        streams += 1;
+        // The streams that differ are left out behind the first message that
+        // does, so the count is no bound by itself.
+        if streams > count {
+            break;
+        }
+    }
+    tally.finish()
+}
+
+/// Writes a stream and its listing.
+fn write(octets: &str, text: &str, count: usize, seed: u64) -> bool {
+    let stream = end_to_end(&mut Random::new(seed), count);
+    let written =
+        std::fs::write(octets, &stream).and_then(|()| std::fs::write(text, listing(&stream)));
+    if let Err(error) = &written {
+        eprintln!("{error}");
+    }
+    written.is_ok()
+}

@@ -1,0 +1,60 @@
+//! Compares samples drawn as rows, and levels put to places, with the second
+//! decoder. `part` runs a fixed part of the cases, `whole` runs more of them.
+
+mod dimmer;
+mod foreign;
+mod graphic;
+mod levels;
+mod samples;
+mod tags;
+mod tally;
+
+// The dictionaries and their generator are those of the dictionary comparison.
+#[path = "../dictionary/dictionaries.rs"]
+mod dictionaries;
+#[path = "../dictionary/random.rs"]
+mod random;
+
+use std::process::ExitCode;
+use tally::Tally;
+
+/// Hints before, between and behind colours and intensity, both formats.
+const HINTS: &[&str] = &[
+    "4200 4210 527E 4010 4100",
+    "4101 4200 4210 527E 4010 5C10 4010",
+    "5C10 4010 4200 4010 5C00 4010 5000 4010 4101 4210 5C20 4010 5214",
+    "4200 4210 4220 5C20 5C10 4100 527E 5214 51CC",
+];
+
+fn main() -> ExitCode {
+    let arguments: Vec<String> = std::env::args().skip(1).collect();
+    let whole = match arguments.as_slice() {
+        [word] if word == "part" => false,
+        [word] if word == "whole" => true,
+        _ => {
+            eprintln!("usage: rows part|whole");
+            return ExitCode::from(2);
+        }
+    };
+    let mut tally = Tally::default();
+    let hints: Vec<Vec<u8>> = HINTS
+        .iter()
+        .map(|text| dictionaries::octets(text))
+        .collect();
+    samples::hand_made(
+        &mut tally,
+        &[dictionaries::all(), hints.clone()].concat(),
+        whole,
+    );
+    samples::hints(&mut tally, &hints);
+    samples::random_dictionaries(&mut tally, if whole { 1_500_000 } else { 150_000 });
+    levels::hand_made(&mut tally);
+    levels::ranges(&mut tally, whole);
+    levels::random_tags(&mut tally, if whole { 4_000_000 } else { 400_000 });
+    println!("{}", tally.line());
+    if tally.passed() {
+        ExitCode::SUCCESS
+    } else {
+        ExitCode::FAILURE
+    }
+}
