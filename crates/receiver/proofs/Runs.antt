@@ -1,13 +1,13 @@
 -- Demand 3 speaks of every list: each list of messages and lent slices has a run, so that the claim of History.antt is not empty. A
 -- message's octets are numbers below 256. The run is made of records that hold what the definitions say; the functions' own answers
 -- are others in what no call shows.
-use mathlib.Core.Path.{_≡_, refl, sym, ap, _∙_, subst}
+use mathlib.Core.Path.{_≡_, refl, sym, ap, _∙_, subst, subst₂}
 use Prim.Native.Nat.{ℕ, zero, suc, _+_, _-_, _*_, _/_, _%_, _<_, _≤_}
 use native.Mathlib.Nat.{div-add-mod'}
 use native.Mathlib.Decide.{decLt}
 use native.Mathlib.Omega.{arith}
 use mathlib.Core.Bool.{Bool, true, false, cond, _&&_, _||_}
-use mathlib.Core.List.{List, [], _∷_, map}
+use mathlib.Core.List.{List, [], _∷_, map, reverse, reverseAux, reverse-reverse}
 use mathlib.Core.Logic.{inl, inr}
 use lib.ListN.{length, getD, take, drop, length-set, length-replicate, length-map, length-take, List·getD-eq-default}
 use lib.Seq.{take-length, getD-take, getD-drop}
@@ -28,10 +28,11 @@ use Rattle.tags.specs.declared.Dimmer.{Dimmer}
 use Rattle.tags.specs.Rows.{drawnOver}
 use Rattle.receiver.specs.Message.{channelOf, typeOf, timestampOf, routes, closes, modeOf, serviceOf, matchBits, dataStart, tagsOf, dataOf}
 use Rattle.receiver.specs.Governing.{Governing, graphic, dimming}
-use Rattle.receiver.specs.Checks.{Sums, sums, governs, knownMode, serviceFits, frameNumber, routingNumber, routeNumber, channelNumber, isDrawing, isDimming, body, pointsOf, litPointsOf, addedBy, plus, overLimit, numberOf}
+use Rattle.receiver.specs.Checks.{Sums, sums, governs, knownMode, serviceFits, headerNumber, routingNumber, routeNumber, channelNumber, isDrawing, isDimming, body, pointsOf, litPointsOf, addedBy, plus, overLimit, numberOf}
 use Rattle.receiver.specs.Effects.{refusal}
 use Rattle.receiver.specs.Record.{configAt, channelsOf, governingOf, sumsOf, consistentAt, consistent}
 use Rattle.receiver.specs.LookBack.{Offer, startingSums}
+use Rattle.receiver.specs.LookBackLaws.{starting-within}
 use Rattle.receiver.specs.Fresh.{fresh, emptyLayout, emptyDimmer, channels-fresh, consistent-fresh}
 use Rattle.receiver.specs.Settle.{Sized, closedAt, putAt, withSums}
 use Rattle.receiver.specs.Contract.{Started, messageNumber, Answered}
@@ -44,7 +45,7 @@ use Rattle.receiver.specs.declared.Outcome.{Outcome}
 use Rattle.receiver.specs.declared.Reply.{Reply}
 use Rattle.receiver.specs.declared.route.Found.{Found}
 use Rattle.receiver.specs.declared.draw.Drawn.{Drawn}
-use Rattle.receiver.proofs.History.{StartCall, MessageCall, offer, Ran}
+use Rattle.receiver.proofs.History.{Ran, RanInOrder, Demand3, demand-3}
 
 -- ---- a layout and a dimmer record that hold what tags say
 
@@ -159,7 +160,7 @@ module _ (r : Receiver) (s : Sized r) (m : List ℕ) (octets : Octets m) (rows :
       by-routing true e =
           let found = routed-found (modeOf m) (serviceOf m) (matchBits m) (tagsOf m) (tags-octets m octets) in
           let number : routingNumber (modeOf m) (serviceOf m) (tagsOf m) ≡ 0 =
-          rw e at (first-zero-left (routeNumber m) _ (first-zero-right (frameNumber m) _ accepted)) in
+          rw e at (first-zero-left (routeNumber m) _ (first-zero-right (headerNumber m) _ accepted)) in
           let passed = found .1 .number ∙ number in
           (found .0 .config, rw e (found .1 .config passed), λ w. found .1 .sound passed)
       by-routing false e = (configAt r (channelOf m), rw e, λ w. absurd (eqb-clash (sym e ∙ w)))
@@ -264,13 +265,6 @@ start-meets s =
       channels = channels-fresh (startingSums s);
       sound = consistent-fresh (startingSums s) (starting-within s);
     }
-  where
-    starting-within : (s : Sums) → overLimit (startingSums s) ≡ false
-    starting-within s = go (overLimit s) refl
-      where
-        go : (b : Bool) → overLimit s ≡ b → overLimit (cond b (sums 0 0 0) s) ≡ false
-        go true e = refl
-        go false e = e
 
 pub every-list-runs : (lit points litPoints : ℕ) (calls : List Call)
     → (numbers : List ℕ) × (r : Receiver) × Ran lit points litPoints (map offerOf calls) numbers r × Sized r
@@ -288,3 +282,23 @@ every-list-runs lit points litPoints (c ∷ calls) = go (every-list-runs lit poi
           Ran.offered (run .2) ([], ([], ([], tt))) (refTo (c .octets)) (refTo (c .rows)) (refTo (c .levels)) (a .outcome) (refTo (a .rowsLeft)) (refTo (a .levelsLeft)) (a .answered),
           a .sized,
         )
+
+-- ---- demand 3 whole: every list of messages, in order, has a run, and of every run of it the claim holds
+
+map-reverseAux : (calls done : List Call) → map offerOf (reverseAux calls done) ≡ reverseAux (map offerOf calls) (map offerOf done)
+map-reverseAux [] done = refl
+map-reverseAux (c ∷ calls) done = map-reverseAux calls (c ∷ done)
+
+pub demand-3-whole : (lit points litPoints : ℕ) (calls : List Call)
+    → ((numbers : List ℕ) × (r : Receiver) × RanInOrder lit points litPoints (map offerOf calls) numbers r)
+    × ((numbers : List ℕ) (r : Receiver) → RanInOrder lit points litPoints (map offerOf calls) numbers r
+    → Demand3 (sums lit points litPoints) (map offerOf calls) numbers r)
+demand-3-whole lit points litPoints calls =
+    let run = every-list-runs lit points litPoints (reverse calls) in (
+      (
+        reverse (run .0),
+        run .1,
+        subst₂ (λ (offers : List Offer) (numbers : List ℕ). Ran lit points litPoints offers numbers (run .1)) (map-reverseAux calls []) (sym (reverse-reverse (run .0))) (run .2),
+      ),
+      demand-3 lit points litPoints (map offerOf calls),
+    )

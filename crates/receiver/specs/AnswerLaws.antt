@@ -10,7 +10,7 @@ use borrow.Author.Tests.{eqb-false}
 use Rattle.tags.specs.ChoiceLaws.{first-zero-left, first-zero-right}
 use Rattle.receiver.specs.Message.{channelOf, typeOf, timestampOf, routes, closes, dataOf}
 use Rattle.receiver.specs.Governing.{Governing, closed, routedBy}
-use Rattle.receiver.specs.Checks.{Sums, sums, governs, overLimit, duration, frameNumber, routeNumber, channelNumber, chunkNumber, addedBy, plus, numberOf}
+use Rattle.receiver.specs.Checks.{Sums, sums, governs, overLimit, duration, headerNumber, routeNumber, channelNumber, chunkNumber, addedBy, plus, numberOf}
 use Rattle.receiver.specs.CheckLaws.{accepted-within}
 use Rattle.receiver.specs.Effects.{refusal, replyOf, rowsAfter, levelsLeft, sumsAfter, governingAfter}
 use Rattle.receiver.specs.Record.{channelsOf, governingOf, sumsOf, consistentAt, consistentUpTo, consistent}
@@ -40,16 +40,16 @@ module _ (r : Receiver) (m : List ℕ) (rows levels : ℕ) where
   pub accepted-number : consistent r ≡ true → messageNumber r m rows levels ≡ 0 → numberOf m rows levels (channelsOf r) (sumsOf r) ≡ 0
   accepted-number good e = rw good at e
 
-pub accepted-frame : (m : List ℕ) (rows levels : ℕ) (g : ℕ → Governing) (s : Sums) → numberOf m rows levels g s ≡ 0 → frameNumber m ≡ 0
+pub accepted-frame : (m : List ℕ) (rows levels : ℕ) (g : ℕ → Governing) (s : Sums) → numberOf m rows levels g s ≡ 0 → headerNumber m ≡ 0
 unfolding numberOf
-accepted-frame m rows levels g s e = first-zero-left (frameNumber m) _ e
+accepted-frame m rows levels g s e = first-zero-left (headerNumber m) _ e
 
 pub accepted-chunk : (m : List ℕ) (rows levels : ℕ) (g : ℕ → Governing) (s : Sums) → numberOf m rows levels g s ≡ 0
     → chunkNumber (typeOf m) (dataOf m) (governs m g) rows levels ≡ 0
 unfolding numberOf
 accepted-chunk m rows levels g s e =
     first-zero-left (chunkNumber (typeOf m) (dataOf m) (governs m g) rows levels) _
-    (first-zero-right (channelNumber m g) _ (first-zero-right (routeNumber m) _ (first-zero-right (frameNumber m) _ e)))
+    (first-zero-right (channelNumber m g) _ (first-zero-right (routeNumber m) _ (first-zero-right (headerNumber m) _ e)))
 
 -- what the drawing counted is what the meters take in
 pub added-drawn : (t : ℕ) (chunk : List ℕ) (v : Governing) (rows₀ : List ℤ) (levels₀ : List ℕ) (d : Drawn) (rows₁ : List ℤ) (levels₁ : List ℕ) (time : ℕ)

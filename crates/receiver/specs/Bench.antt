@@ -15,7 +15,7 @@ use Rattle.tags.specs.Dimmer.{overlapsAny, badDimmerTag, clashingTag, dimmerTag
 use Rattle.tags.specs.Levels.{countSum, levelsFit, putLevels, putSubsets, levelsAfter, mappedSum, levelsWritten}
 use Rattle.receiver.specs.Message.{tagsOf, dataOf}
 use Rattle.receiver.specs.Governing.{closed, routed}
-use Rattle.receiver.specs.Checks.{Sums, sums, frameNumber, tagsNumber, routingNumber, routeNumber, waveElsewhere, channelNumber, governs, pointsOf, litPointsOf, drawNumber, dimNumber, chunkNumber, addedBy, meterNumber, numberOf}
+use Rattle.receiver.specs.Checks.{Sums, sums, headerNumber, tagsNumber, routingNumber, routeNumber, waveElsewhere, channelNumber, governs, pointsOf, litPointsOf, drawNumber, dimNumber, chunkNumber, addedBy, meterNumber, numberOf}
 use Rattle.receiver.specs.Effects.{replyOf, rowsAfter, sumsAfter, governingAfter}
 use Rattle.receiver.specs.LookBack.{lookback, workedOut, judged, historySums}
 
@@ -142,5 +142,5 @@ table =
     ∷ []
 
 pub bench : map (λ (r : Row). r .given) table ≡ map (λ (r : Row). r .said) table
-unfolding routingMessage firstNumber chunkOf sumsList bit messageA tagsB tagsC tagsD tagsE tagsF tagsF′ tagsG row sampleRow slotIn litIs z rowsA replyA table placeOf colourOf intensityOf waveOf slotOf slotsOf litAmong rowsOf litIn definedGroup isSingle reservedSpace knownTag slotFor misplaced repeated tagNumber roleFor sampleWith allowedBehind read step walked incomplete endNumber dictionaryNumber dictionarySample overlapsAny badDimmerTag clashingTag dimmerTagNumber mappingWith readDimmer stepDimmer dimmed dimmerNumber dimmerMapping countSum levelsFit tagsOf dataOf routed frameNumber tagsNumber routingNumber routeNumber waveElsewhere channelNumber governs pointsOf litPointsOf drawNumber dimNumber chunkNumber addedBy meterNumber numberOf replyOf rowsAfter sumsAfter lookback workedOut judged
+unfolding routingMessage firstNumber chunkOf sumsList bit messageA tagsB tagsC tagsD tagsE tagsF tagsF′ tagsG row sampleRow slotIn litIs z rowsA replyA table placeOf colourOf intensityOf waveOf slotOf slotsOf litAmong rowsOf litIn definedGroup isSingle reservedSpace knownTag slotFor misplaced repeated tagNumber roleFor sampleWith allowedBehind read step walked incomplete endNumber dictionaryNumber dictionarySample overlapsAny badDimmerTag clashingTag dimmerTagNumber mappingWith readDimmer stepDimmer dimmed dimmerNumber dimmerMapping countSum levelsFit tagsOf dataOf routed headerNumber tagsNumber routingNumber routeNumber waveElsewhere channelNumber governs pointsOf litPointsOf drawNumber dimNumber chunkNumber addedBy meterNumber numberOf replyOf rowsAfter sumsAfter lookback workedOut judged
 bench = refl

@@ -9,7 +9,7 @@ use borrow.Author.Tests.{ltb-false, le-ltb, eqb-true, eq-eqb}
 use Rattle.tags.specs.ChoiceLaws.{first-zero-right, refuse-zero}
 use Rattle.receiver.specs.Message.{typeOf, dataOf}
 use Rattle.receiver.specs.Governing.{Governing}
-use Rattle.receiver.specs.Checks.{Sums, limit, governs, frameNumber, routeNumber, channelNumber, chunkNumber, addedBy, plus, overLimit, meterNumber, numberOf}
+use Rattle.receiver.specs.Checks.{Sums, limit, governs, headerNumber, routeNumber, channelNumber, chunkNumber, addedBy, plus, overLimit, meterNumber, numberOf}
 use Rattle.receiver.specs.Effects.{sumsAfter}
 
 -- ---- the meters
@@ -21,7 +21,7 @@ unfolding numberOf meterNumber
 accepted-within m rows levels g s e =
     refuse-zero _ 22
     (first-zero-right (chunkNumber (typeOf m) (dataOf m) (governs m g) rows levels) _
-    (first-zero-right (channelNumber m g) _ (first-zero-right (routeNumber m) _ (first-zero-right (frameNumber m) _ e))))
+    (first-zero-right (channelNumber m g) _ (first-zero-right (routeNumber m) _ (first-zero-right (headerNumber m) _ e))))
 
 -- the meters stay within their limit over one message
 pub sumsAfter-within : (m : List ℕ) (rows levels : ℕ) (g : ℕ → Governing) (s : Sums) → overLimit s ≡ false

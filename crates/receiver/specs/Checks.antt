@@ -27,7 +27,7 @@ sums lit points litPoints = record { lit = lit; points = points; litPoints = lit
 abbrev pub limit : ℕ
 limit = 36_000_000_000_000_000
 
--- ---- checks 2 to 5: the frame of the message
+-- ---- checks 2 to 5: the length and the header
 
 -- 2. "The length is below 8, above 65,280, or not Total Size."
 abbrev pub wrongLength : List ℕ → Bool
@@ -37,8 +37,8 @@ wrongLength m = ltb (length m) 8 || ltb 65280 (length m) || not (eqb (length m) 
 abbrev pub knownType : ℕ → Bool
 knownType t = leb t 2 || eqb t 0x18
 
-unfoldable pub frameNumber : List ℕ → ℕ
-frameNumber m =
+unfoldable pub headerNumber : List ℕ → ℕ
+headerNumber m =
     first (refuse (wrongLength m) 2)
     (first (refuse (eqb (topBit m) 0) 3)
     (first (refuse (not (knownType (typeOf m))) 4)
@@ -179,7 +179,7 @@ meterNumber t chunk v sums = refuse (overLimit (plus sums (addedBy t chunk v))) 
 -- the number of message m, lent `rows` numbers and `levels` octets: 0 where it is accepted
 unfoldable pub numberOf : List ℕ → ℕ → ℕ → (ℕ → Governing) → Sums → ℕ
 numberOf m rows levels g sums =
-    first (frameNumber m)
+    first (headerNumber m)
     (first (routeNumber m)
     (first (channelNumber m g)
     (first (chunkNumber (typeOf m) (dataOf m) (governs m g) rows levels)

@@ -11,7 +11,7 @@ use Rattle.tags.specs.Choice.{refuse}
 use Rattle.tags.specs.ChoiceLaws.{and-left, and-right, or-false-left, or-false-right, first-zero-left, first-zero-right, first-refuses, first-assoc, refuse-zero, not-zero, refused-not-zero}
 use Rattle.receiver.specs.Message.{totalSize, topBit, channelOf, typeOf, configured, configLength, routes, serviceOf, modeOf, matchBits, dataStart, tagsOf, dataOf}
 use Rattle.receiver.specs.Governing.{Governing, routedBy}
-use Rattle.receiver.specs.Checks.{Sums, limit, overLimit, wrongLength, knownType, frameNumber, routingNumber, routeNumber, waveElsewhere, channelNumber, governs, chunkNumber, meterNumber, numberOf}
+use Rattle.receiver.specs.Checks.{Sums, limit, overLimit, wrongLength, knownType, headerNumber, routingNumber, routeNumber, waveElsewhere, channelNumber, governs, chunkNumber, meterNumber, numberOf}
 use Rattle.receiver.specs.Record.{configAt, channelsOf, governingOf, sumsOf, consistentAt, consistentUpTo, consistent}
 use Rattle.receiver.specs.RecordLaws.{waveStates, waveElsewhere-states}
 use Rattle.receiver.specs.Contract.{messageNumber}
@@ -22,9 +22,9 @@ use Rattle.receiver.specs.declared.route.Found.{Found}
 
 -- ---- the frame
 
-module _ (m : List ℕ) (frame : frameNumber m ≡ 0) where
+module _ (m : List ℕ) (frame : headerNumber m ≡ 0) where
   right-length : wrongLength m ≡ false
-  unfolding frameNumber
+  unfolding headerNumber
   right-length = refuse-zero (wrongLength m) 1 (first-zero-left (refuse (wrongLength m) 2) _ frame)
 
   -- "The length is .. above 65,280" did not hold
@@ -36,7 +36,7 @@ module _ (m : List ℕ) (frame : frameNumber m ≡ 0) where
 
   -- the data section starts within the message
   pub frame-start : dataStart m ≤ length m
-  unfolding frameNumber
+  unfolding headerNumber
   frame-start =
       ltb-false (length m) (dataStart m)
       (refuse-zero _ 4
@@ -143,11 +143,11 @@ module _ (r : Receiver) (m : List ℕ) (rows levels : ℕ) where
 
   module _ (good : consistent r ≡ true) where
     -- checks 2 to 5
-    pub judged-misframed : (f : Found) → not (eqb (f .number) 0) ≡ true → f .number ≡ frameNumber m → Judgement r m rows levels f
+    pub judged-misframed : (f : Found) → not (eqb (f .number) 0) ≡ true → f .number ≡ headerNumber m → Judgement r m rows levels f
     unfolding numberOf
     judged-misframed f e q = refused f e (rw (good, ← q) (sym (first-refuses (f .number) _ (not-true _ e))))
 
-    module _ (frame : frameNumber m ≡ 0) (f : Found) (found : Governed r m f) where
+    module _ (frame : headerNumber m ≡ 0) (f : Found) (found : Governed r m f) where
       -- checks 6 to 16
       pub judged-ungoverned : not (eqb (f .number) 0) ≡ true → Judgement r m rows levels f
       unfolding numberOf

@@ -59,7 +59,7 @@ startingSums s = cond (overLimit s) (sums 0 0 0) s
 
 -- ---- a history in order
 
--- the list judged, in order
+-- the list judged, latest message first
 abbrev pub historyJudged : Sums → List Offer → List Judged
 historyJudged start offers = judged (startingSums start) (reverse offers)
 

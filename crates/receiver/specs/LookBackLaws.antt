@@ -1,9 +1,9 @@
 -- Laws about the look-back rule: a record that agrees with it before a message agrees with it behind the message.
 use mathlib.Core.Path.{_≡_, refl, sym, ap, _∙_, subst, fun-ext}
 use Prim.Native.Nat.{ℕ, _+_}
-use native.Mathlib.Nat.{add-zero, add-assoc}
+use native.Mathlib.Nat.{add-zero, add-assoc, le-refl, le-trans}
 use mathlib.Core.Bool.{Bool, true, false, cond}
-use mathlib.Core.List.{List, [], _∷_}
+use mathlib.Core.List.{List, [], _∷_, _++_}
 use lib.ListN.{length}
 use lib.IntN.{ℤ}
 use lib.Dec.{eqb}
@@ -11,11 +11,10 @@ use borrow.Author.Tests.{eqb-true}
 use Rattle.receiver.specs.Message.{typeOf, dataOf}
 use Rattle.receiver.specs.Governing.{Governing}
 use Rattle.receiver.specs.Checks.{Sums, sums, governs, plus, overLimit, addedBy, numberOf}
-use Rattle.receiver.specs.CheckLaws.{NotAbove, sumsAfter-grows}
+use Rattle.receiver.specs.CheckLaws.{NotAbove, sumsAfter-within, sumsAfter-grows}
 use Rattle.receiver.specs.Effects.{refusal, replyOf, sumsAfter, governingAfter}
 use Rattle.receiver.specs.LookBack.{Offer, Judged, lookback, workedOut, running, judge, judged, startingSums}
 use Rattle.receiver.specs.Record.{channelsOf, sumsOf, consistent}
-use Rattle.receiver.specs.JudgeLaws.{consistent-limit}
 use Rattle.receiver.specs.Contract.{Started, messageNumber, Answered}
 use Rattle.receiver.specs.declared.Receiver.{Receiver}
 use Rattle.receiver.specs.declared.Outcome.{Outcome}
@@ -48,6 +47,40 @@ replyOf-number m n v = go (eqb n 0) refl _ refl
     go true e p z = z ∙ sym (eqb-true n 0 e)
     go false e p z = refl
 
+-- ---- the rule alone
+
+not-above-trans : (a b c : Sums) → NotAbove a b → NotAbove b c → NotAbove a c
+not-above-trans a b c p q = (le-trans (p .0) (q .0), le-trans (p .1) (q .1), le-trans (p .2) (q .2))
+
+-- what the rule works out never falls as the list grows: `late` stands in front, as the latest
+pub running-grows : (s : Sums) (late early : List Offer) → NotAbove (running s (judged s early)) (running s (judged s (late ++ early)))
+unfolding judged workedOut
+running-grows s [] early = (le-refl _, le-refl _, le-refl _)
+running-grows s (o ∷ late) early =
+    let js = judged s (late ++ early) in
+    let j = judge s js o in
+    not-above-trans (running s (judged s early)) (running s js) (running s (j ∷ js)) (running-grows s late early)
+    (subst (NotAbove (running s js)) (sumsAfter-plus (o .octets) (j .number) (governs (o .octets) (lookback js)) s (workedOut js))
+    (sumsAfter-grows (o .octets) (j .number) (governs (o .octets) (lookback js)) (running s js)))
+
+-- nor passes a limit, from readings within it
+pub running-within : (s : Sums) (offers : List Offer) → overLimit s ≡ false → overLimit (running s (judged s offers)) ≡ false
+unfolding judged workedOut
+running-within s [] h = subst (λ (t : Sums). overLimit t ≡ false) (sym (plus-zero s)) h
+running-within s (o ∷ offers) h =
+    let js = judged s offers in
+    let j = judge s js o in
+    subst (λ (t : Sums). overLimit t ≡ false) (sumsAfter-plus (o .octets) (j .number) (governs (o .octets) (lookback js)) s (workedOut js))
+    (sumsAfter-within (o .octets) (o .rows) (o .levels) (lookback js) (running s js) (running-within s offers h))
+
+-- readings that start sets are within their limit
+pub starting-within : (s : Sums) → overLimit (startingSums s) ≡ false
+starting-within s = go (overLimit s) refl
+  where
+    go : (b : Bool) → overLimit s ≡ b → overLimit (cond b (sums 0 0 0) s) ≡ false
+    go true e = refl
+    go false e = e
+
 -- ---- agreement
 
 -- The record agrees with the rule on the judged messages, from the starting readings s: its meters, what governs each channel, and it
@@ -56,10 +89,6 @@ pub record Agrees (s : Sums) (js : List Judged) (r : Receiver) : Type 0 where
   pub meters : sumsOf r ≡ running s js
   pub channels : (c : ℕ) → channelsOf r c ≡ lookback js c
   pub sound : consistent r ≡ true
-
--- the meters that agree are within their limit
-pub agrees-within : (s : Sums) (js : List Judged) (r : Receiver) → Agrees s js r → overLimit (sumsOf r) ≡ false
-agrees-within s js r agrees = consistent-limit r (agrees .sound)
 
 pub started-agrees : (s : Sums) (o : Outcome) → Started s o → Agrees (startingSums s) [] (o .receiver)
 unfolding workedOut lookback

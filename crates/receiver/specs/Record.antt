@@ -1,5 +1,5 @@
 -- How the receiver's record is read, and the consistency rule of check 1 (document 01, "Checks, in order"). Only these readings of
--- a record show in later calls: what governs each channel, and the three meters.
+-- a record show in later calls: what governs each channel, the three meters, and whether it is consistent.
 use Prim.Native.Nat.{ℕ, zero, suc, _-_}
 use mathlib.Core.Bool.{Bool, true, false, cond, not, _&&_, _||_}
 use mathlib.Core.List.{List, []}

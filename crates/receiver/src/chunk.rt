@@ -1,4 +1,4 @@
-// Checks 17 to 23 on the data section, and what an accepted chunk writes.
+// Checks 17 to 22 on the data section.
 use super::Config;
 use super::header::octet;
 use tags::Dimmer;

@@ -8,7 +8,7 @@ ghost use Prim.Native.Nat.{_+_, _*_, _≤_, _<_};
 ghost use lib.ListN.{getD, length};
 ghost use Rattle.receiver.specs.Header.{headerOf};
 ghost use Rattle.receiver.specs.Message.{dataStart, tagsOf, dataOf};
-ghost use Rattle.receiver.specs.Checks.{frameNumber, wrongLength};
+ghost use Rattle.receiver.specs.Checks.{headerNumber, wrongLength};
 
 // The largest message, "above 65,280" is refused.
 const LARGEST: usize = 65280;
@@ -93,8 +93,8 @@ pub fn wrong_length(m: &[u8]) -> bool
 }
 
 // Checks 2 to 5: the number that refuses the frame of the message, or 0.
-pub fn frame_number(m: &[u8]) -> u8
-    ensures { λ r. ⌜ r ≡ frameNumber (now (m .entry)) ⌝ }
+pub fn header_number(m: &[u8]) -> u8
+    ensures { λ r. ⌜ r ≡ headerNumber (now (m .entry)) ⌝ }
 {
     let n = m.len();
     let wrong = wrong_length(m);

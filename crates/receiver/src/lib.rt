@@ -1,11 +1,11 @@
 // The channel receiver: messages in, replies, rows, levels and three meters out. It stands on the tag layer's promises.
-pub mod chunk;
-pub mod draw;
-pub mod header;
+mod chunk;
+mod draw;
+mod header;
 pub mod host;
-pub mod message;
-pub mod record;
-pub mod route;
+mod message;
+mod record;
+mod route;
 pub mod section;
 
 use tags::Dimmer;

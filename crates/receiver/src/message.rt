@@ -11,7 +11,7 @@ use super::draw::meter_number;
 use super::header;
 use super::header::Header;
 use super::header::chunk_of;
-use super::header::frame_number;
+use super::header::header_number;
 use super::record::add_meters;
 use super::record::close_channel;
 use super::record::is_consistent;
@@ -24,7 +24,7 @@ use super::route::route;
 ghost use mathlib.Core.Path.{_≡_};
 ghost use lib.ListN.{length};
 ghost use Rattle.receiver.specs.Header.{headerOf};
-ghost use Rattle.receiver.specs.Checks.{frameNumber};
+ghost use Rattle.receiver.specs.Checks.{headerNumber};
 ghost use Rattle.receiver.specs.Record.{governingOf};
 ghost use Rattle.receiver.specs.Contract.{messageNumber, Answered};
 ghost use Rattle.receiver.specs.Steps.{Governed, Judgement};
@@ -32,7 +32,7 @@ ghost use Rattle.receiver.specs.Steps.{Governed, Judgement};
 // Checks 6 to 16, and what governs the message: what it brings itself, or what its channel holds.
 fn governing(r: Receiver, m: &[u8], h: Header) -> Found
     requires { ⌜ h ≡ headerOf (now m) ⌝ }
-    requires { ⌜ frameNumber (now m) ≡ 0 ⌝ }
+    requires { ⌜ headerNumber (now m) ≡ 0 ⌝ }
     ensures { λ f. ⌜ Governed r (now (m .entry)) f ⌝ }
 {
     let at = h.channel.0 as usize;
@@ -75,7 +75,7 @@ fn judge(r: Receiver, m: &[u8], rows: usize, levels: usize) -> Found
     if !good {
         return none_found(1);
     }
-    let frame = frame_number(m);
+    let frame = header_number(m);
     let misframed = frame != 0;
     if misframed {
         return none_found(frame);

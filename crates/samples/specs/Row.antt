@@ -45,7 +45,7 @@ shutterOf roles h = cond (has roles (hintOf 1)) (h % 2) 1
 
 -- ---- the slots
 
--- slot 8 + k, the k-th colour: "divided by 4 to the power c, rounded down, wherever the hint stands"
+-- slot 8 + k, the k-th colour: "divided by 4 to the power c, .. rounded down, wherever the hint stands"
 unfoldable pub colourOf : List ℕ → List ℕ → ℕ → ℕ
 colourOf roles sample k = valueOf roles sample (k + 8) / 4 ^ colourScale (hintIn roles sample)
 

@@ -39,7 +39,7 @@ pub fn draw(
     chunk::draw(&roles, size, &waves, colours, count, octets, rows)
 }
 
-// How many of the points of `octets` are lit, for a chunk whose rows have no room.
+// How many of the points of `octets` are lit, without drawing them.
 pub fn lit_points(roles: [u8; 32], width: usize, octets: &[u8]) -> usize
     ensures { λ r. ⌜ r ≡ litIn (take width roles) (now (octets .entry)) (pointsIn (take width roles) (now (octets .entry))) ⌝ }
 {

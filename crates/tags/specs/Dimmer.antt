@@ -53,7 +53,7 @@ allInRange (e ∷ es) = baseInRange (baseOf e) && countInRange (baseOf e) (count
 abbrev pub mappingInRange : Mapping → Bool
 mappingInRange m = (eqb (m .base) 0 || baseInRange (m .base)) && allInRange (m .subsets)
 
--- ---- the walk
+-- ---- the state of the walk
 
 -- The walk over the octets: the refusal, 0 so far; how many octets are still to be passed over; the mapping so far.
 pub record Dimming : Type 0 where

@@ -5,7 +5,7 @@ use mathlib.Core.Bool.{Bool, cond, not, _&&_, _||_}
 use mathlib.Core.List.{List, [], _∷_, _++_}
 use lib.ListN.{length, take, drop}
 use lib.Dec.{ltb, leb, eqb}
-use Rattle.tags.specs.Dimmer.{Mapping, baseOf, countOf, dropped}
+use Rattle.tags.specs.Dimmer.{Mapping, baseOf, countOf, dropped, mappingInRange}
 
 -- the base of the contiguous set: that of the 42, and "with neither 42 nor 43 the base is 1"
 abbrev pub wholeBase : Mapping → ℕ
@@ -66,10 +66,14 @@ levelsDrawn mode m octets levels = cond (levelsFit m (length octets)) (levelsAft
 unfoldable pub levelsCounted : Mapping → ℕ → ℕ
 levelsCounted m n = cond (levelsFit m n) (levelsWritten m n) 0
 
--- ---- for a C host, with check 22: where fewer than 1,024 places are lent, nothing is written and 0 are counted
+-- ---- for a C host: where fewer than 1,024 places are lent (check 22), or the mapping is none that the check of dimmer tags leaves,
+-- nothing is written and 0 are counted
+
+abbrev pub hostRefuses : Mapping → ℕ → Bool
+hostRefuses m lent = ltb lent 1024 || not (mappingInRange m)
 
 unfoldable pub hostLevels : ℕ → Mapping → List ℕ → List ℕ → List ℕ
-hostLevels mode m octets levels = cond (ltb (length levels) 1024) levels (levelsDrawn mode m octets levels)
+hostLevels mode m octets levels = cond (hostRefuses m (length levels)) levels (levelsDrawn mode m octets levels)
 
 unfoldable pub hostWritten : Mapping → ℕ → ℕ → ℕ
-hostWritten m n lent = cond (ltb lent 1024) 0 (levelsCounted m n)
+hostWritten m n lent = cond (hostRefuses m lent) 0 (levelsCounted m n)

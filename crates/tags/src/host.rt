@@ -84,7 +84,8 @@ pub extern "C" fn mewkoast_mapping(tags: &[u8]) -> Mapped
     dimming::check(tags)
 }
 
-// Levels to places by a mapping: the count written; nothing, and 0, where check 21 does not pass or fewer than 1,024 places are lent.
+// Levels to places by a mapping: the count written; nothing, and 0, where check 21 does not pass, fewer than 1,024 places are lent, or the
+// mapping is none that the check of dimmer tags leaves.
 #[no_mangle]
 pub extern "C" fn mewkoast_levels(
     dimmer: Dimmer,
@@ -95,8 +96,8 @@ pub extern "C" fn mewkoast_levels(
     ensures { λ r. ⌜ now (levels .exit) ≡ hostLevels mode (mappingOf dimmer) (now (octets .entry)) (now (levels .entry)) ⌝ }
     ensures { λ r. ⌜ r ≡ hostWritten (mappingOf dimmer) (length (now (octets .entry))) (length (now (levels .entry))) ⌝ }
 {
-    let short = levels.len() < 1024;
-    if short {
+    let refused = (levels.len() < 1024) | !levels::in_range(dimmer);
+    if refused {
         return 0;
     }
     levels::write(dimmer, mode, octets, levels)

@@ -7,7 +7,7 @@ use Prim.Native.Nat.{ℕ}
 use mathlib.Core.List.{List}
 use Rattle.receiver.specs.Message.{typeOf, dataStart, dataOf}
 use Rattle.receiver.specs.Header.{headerOf}
-use Rattle.receiver.specs.Checks.{frameNumber, chunkNumber, meterNumber}
+use Rattle.receiver.specs.Checks.{headerNumber, chunkNumber, meterNumber}
 use Rattle.receiver.specs.Record.{consistent, governingOf, sumsOf}
 use Rattle.receiver.specs.JudgeLaws.{data-length, within-each, consistent-limit, judged-inconsistent, judged-misframed, judged-ungoverned, judged-chunk, judged-meters}
 use Rattle.receiver.specs.declared.header.Header.{Header}
@@ -21,8 +21,8 @@ use Rattle.receiver.proofs.message.judge.Lts as lts
 good : (c : tie.Else1) → consistent (c .before .before .before .args .r) ≡ true
 good c = sym (c .before .is-consistent .ensures) ∙ not-false _ (c .if1 .left)
 
-framed : (c : tie.Else2) → frameNumber (c .before .before .before .before .before .args .m .now) ≡ 0
-framed c = sym (c .before .frame-number .ensures) ∙ eqb-true _ 0 (not-false _ (c .if2 .left))
+framed : (c : tie.Else2) → headerNumber (c .before .before .before .before .before .args .m .now) ≡ 0
+framed c = sym (c .before .header-number .ensures) ∙ eqb-true _ 0 (not-false _ (c .if2 .left))
 
 start-is : (c : tie.After-read) → c .read .result .start ≡ dataStart (c .before .before .before .before .before .before .args .m .now)
 unfolding headerOf
@@ -46,7 +46,7 @@ returns-2 c =
     let s = c .before .before .before .before .before .before in
     judged-misframed (s .args .r) (s .args .m .now) (s .args .rows) (s .args .levels) (good (c .before .before .before)) (c .none-found2 .result)
     (rw (c .none-found2 .ensures) (c .before .if2 .taken))
-    (c .none-found2 .ensures ∙ c .before .before .frame-number .ensures)
+    (c .none-found2 .ensures ∙ c .before .before .header-number .ensures)
 
 governing-requires : tie.Need-governing-requires
 governing-requires c κs = (c .read .ensures, framed (c .before))
