@@ -22,7 +22,7 @@ use Rattle.tags.specs.DictionaryLaws.{dictionarySample-octets, dictionarySample
 use Rattle.tags.specs.Dimmer.{Mapping, baseOf, countOf, dimmerNumber, dimmerMapping}
 use Rattle.tags.specs.DimmerLaws.{dimmer-mapping-ranged}
 use Rattle.tags.specs.Levels.{levelsAfter, levelsWritten}
-use Rattle.tags.specs.Layout.{sampleOf, subsetsOf, mappingOf}
+use Rattle.tags.specs.Layout.{sampleOf, subsetsOf, mappingOf, emptyLayout, emptyDimmer}
 use Rattle.tags.specs.declared.Layout.{Layout}
 use Rattle.tags.specs.declared.Dimmer.{Dimmer}
 use Rattle.tags.specs.Rows.{drawnOver}
@@ -33,7 +33,7 @@ use Rattle.receiver.specs.Effects.{refusal}
 use Rattle.receiver.specs.Record.{configAt, channelsOf, governingOf, sumsOf, consistentAt, consistent}
 use Rattle.receiver.specs.LookBack.{Offer, startingSums}
 use Rattle.receiver.specs.LookBackLaws.{starting-within}
-use Rattle.receiver.specs.Fresh.{fresh, emptyLayout, emptyDimmer, channels-fresh, consistent-fresh}
+use Rattle.receiver.specs.Fresh.{fresh, channels-fresh, consistent-fresh}
 use Rattle.receiver.specs.Settle.{Sized, closedAt, putAt, withSums}
 use Rattle.receiver.specs.Contract.{Started, messageNumber, Answered}
 use Rattle.receiver.specs.Steps.{RoutedTo, DrawnBy}

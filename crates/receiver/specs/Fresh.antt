@@ -4,20 +4,12 @@ use Prim.Native.Nat.{ℕ, zero, suc}
 use mathlib.Core.Bool.{Bool, true, false, not, _&&_}
 use mathlib.Core.List.{List, []}
 use lib.ListN.{getD, replicate}
-use Rattle.tags.specs.Layout.{subsetsOf}
+use Rattle.tags.specs.Layout.{subsetsOf, emptyLayout, emptyDimmer, layoutSound, dimmerSound, hasOctets}
 use Rattle.tags.specs.Dimmer.{allInRange}
-use Rattle.tags.specs.declared.Layout.{Layout}
-use Rattle.tags.specs.declared.Dimmer.{Dimmer}
 use Rattle.receiver.specs.Governing.{Governing, closed}
 use Rattle.receiver.specs.Checks.{Sums, overLimit}
 use Rattle.receiver.specs.Record.{configAt, channelsOf, governingOf, consistentAt, consistentUpTo, consistent}
 use Rattle.receiver.specs.declared.Receiver.{Receiver}
-
-abbrev pub emptyLayout : Layout
-emptyLayout = record { roles = replicate 32 0; waves = replicate 8 0; space = 0; width = 0; colours = 0 }
-
-abbrev pub emptyDimmer : Dimmer
-emptyDimmer = record { bases = replicate 32 0; counts = replicate 32 0; base = 0; count = 0 }
 
 abbrev pub fresh : Sums → Receiver
 fresh s =
@@ -43,7 +35,7 @@ channels-fresh s c = rw (getD-replicate-default {A = ℕ} 64 c 0)
 
 -- and it is consistent where the readings are within the limit
 consistentUpTo-fresh : (s : Sums) → consistentUpTo (fresh s) 64 ≡ true
-unfolding consistentUpTo consistentAt subsetsOf allInRange
+unfolding consistentUpTo consistentAt layoutSound dimmerSound hasOctets subsetsOf allInRange
 consistentUpTo-fresh s = refl
 
 pub consistent-fresh : (s : Sums) → overLimit s ≡ false → consistent (fresh s) ≡ true

@@ -2,24 +2,13 @@
 -- a record show in later calls: what governs each channel, the three meters, and whether it is consistent.
 use Prim.Native.Nat.{ℕ, zero, suc, _-_}
 use mathlib.Core.Bool.{Bool, true, false, cond, not, _&&_, _||_}
-use mathlib.Core.List.{List, []}
 use lib.ListN.{getD}
-use lib.Dec.{ltb, leb, eqb}
-use Rattle.tags.specs.Dimmer.{mappingInRange}
-use Rattle.tags.specs.Layout.{sampleOf, mappingOf}
-use Rattle.tags.specs.declared.Layout.{Layout}
-use Rattle.tags.specs.declared.Dimmer.{Dimmer}
+use lib.Dec.{eqb}
+use Rattle.tags.specs.Layout.{sampleOf, mappingOf, blankLayout, blankDimmer, layoutSound, dimmerSound, hasOctets}
 use Rattle.receiver.specs.Governing.{Governing, closed}
 use Rattle.receiver.specs.Checks.{Sums, overLimit}
 use Rattle.receiver.specs.declared.Config.{Config}
 use Rattle.receiver.specs.declared.Receiver.{Receiver}
-
--- what a reading past the arrays gives
-abbrev pub blankLayout : Layout
-blankLayout = record { roles = []; waves = []; space = 0; width = 0; colours = 0 }
-
-abbrev pub blankDimmer : Dimmer
-blankDimmer = record { bases = []; counts = []; base = 0; count = 0 }
 
 -- what the record holds of channel c
 abbrev pub configAt : Receiver → ℕ → Config
@@ -58,13 +47,12 @@ sumsOf r = record { lit = r .lit; points = r .points; litPoints = r .«lit_point
 abbrev pub knownState : ℕ → Bool
 knownState s = eqb s 0 || eqb s 1 || eqb s 2 || eqb s 3 || eqb s 5 || eqb s 7
 
--- a channel's state is known, its counts are within their arrays, its levels' bases and counts are in range, and a graphic channel (mode
--- 1 or 2) has samples of at least one octet
+-- a channel's state is known, its layout and its mapping are sound by the tag layer's tests (counts within their arrays, bases and
+-- counts of levels in range), and a graphic channel (mode 1 or 2) has samples of at least one octet
 unfoldable pub consistentAt : Config → Bool
 consistentAt k =
-    knownState (k .state) && leb (k .layout .width) 32 && leb (k .layout .colours) 8 && leb (k .dimmer .count) 32
-    && (leb 1 (k .layout .width) || not (eqb (k .state) 2 || eqb (k .state) 3))
-    && mappingInRange (mappingOf (k .dimmer))
+    knownState (k .state) && layoutSound (k .layout) && dimmerSound (k .dimmer)
+    && (hasOctets (k .layout) || not (eqb (k .state) 2 || eqb (k .state) 3))
 
 unfoldable pub consistentUpTo : Receiver → ℕ → Bool
 consistentUpTo r zero = true

@@ -4,22 +4,20 @@ use Prim.Native.Nat.{ℕ, zero, suc, _+_, _-_, _<_, _≤_}
 use mathlib.Core.Bool.{Bool, true, false, false≢true, cond, not, _&&_, _||_}
 use mathlib.Core.Logic.{_⊎_, inl, inr, ⊎-elim}
 use native.Mathlib.Omega.{arith}
-use lib.Dec.{leb, eqb}
-use lib.ListN.{length, getD, take, length-take}
-use borrow.Author.Tests.{eqb-true, ne-eqb, le-leb}
+use lib.Dec.{eqb}
+use lib.ListN.{getD}
+use borrow.Author.Tests.{eqb-true, ne-eqb}
 use mathlib.Core.List.{List}
 use Rattle.tags.specs.ChoiceLaws.{or-cases, or-true}
 use Rattle.tags.specs.Dictionary.{dictionaryNumber, dictionarySample}
-use Rattle.tags.specs.DictionaryLaws.{accepted-octets}
-use Rattle.tags.specs.Dimmer.{dimmerNumber, dimmerMapping, allInRange, mappingInRange}
-use Rattle.tags.specs.DimmerLaws.{dimmer-mapping-in-range}
-use Rattle.tags.specs.Layout.{sampleOf, subsetsOf, mappingOf, soundLayout, soundDimmer}
+use Rattle.tags.specs.Dimmer.{dimmerNumber, dimmerMapping}
+use Rattle.tags.specs.Layout.{sampleOf, subsetsOf, mappingOf, soundLayout, soundDimmer, emptyLayout, emptyDimmer, layoutSound, dimmerSound, hasOctets}
+use Rattle.tags.specs.LayoutLaws.{layout-sound, dimmer-sound, accepted-has-octets, empty-layout-sound, empty-dimmer-sound}
 use Rattle.tags.specs.declared.Layout.{Layout}
 use Rattle.tags.specs.declared.Dimmer.{Dimmer}
 use Rattle.receiver.specs.Governing.{Governing, graphic, dimming, routed}
 use Rattle.receiver.specs.Checks.{knownMode, serviceFits, tagsNumber, routingNumber}
 use Rattle.receiver.specs.Record.{governingOf, knownState, consistentAt}
-use Rattle.receiver.specs.Fresh.{emptyLayout, emptyDimmer}
 use Rattle.receiver.specs.Steps.{RoutedTo}
 use Rattle.receiver.specs.declared.Config.{Config}
 use Rattle.receiver.specs.declared.route.Found.{Found}
@@ -70,17 +68,16 @@ governing-open k mode e =
     let less : mode + 1 - 1 ≡ mode = omega arith in
     rw (e, not-closed, less)
 
--- a known state with its counts within the arrays is consistent, where a graphic one has an octet
-pub consistent-open : (k : Config) → knownState (k .state) ≡ true → soundLayout (k .layout) → k .dimmer .count ≤ 32
-    → mappingInRange (mappingOf (k .dimmer)) ≡ true → (1 ≤ k .layout .width) ⊎ (eqb (k .state) 2 || eqb (k .state) 3 ≡ false) → consistentAt k ≡ true
+-- a known state with a sound layout and a sound mapping is consistent, where a graphic one has an octet
+pub consistent-open : (k : Config) → knownState (k .state) ≡ true → layoutSound (k .layout) ≡ true → dimmerSound (k .dimmer) ≡ true
+    → (hasOctets (k .layout) ≡ true) ⊎ (eqb (k .state) 2 || eqb (k .state) 3 ≡ false) → consistentAt k ≡ true
 unfolding consistentAt
-consistent-open k known l d ranged w =
-    rw (known, le-leb (k .layout .width) 32 (l .0), le-leb (k .layout .colours) 8 (l .1), le-leb (k .dimmer .count) 32 d, wide w, ranged)
+consistent-open k known l d w = rw (known, l, d) (wide w)
   where
-    wide : (1 ≤ k .layout .width) ⊎ (eqb (k .state) 2 || eqb (k .state) 3 ≡ false)
-        → leb 1 (k .layout .width) || not (eqb (k .state) 2 || eqb (k .state) 3) ≡ true
-    wide (inl h) = rw (le-leb 1 (k .layout .width) h)
-    wide (inr e) = rw e (or-true (leb 1 (k .layout .width)))
+    wide : (hasOctets (k .layout) ≡ true) ⊎ (eqb (k .state) 2 || eqb (k .state) 3 ≡ false)
+        → hasOctets (k .layout) || not (eqb (k .state) 2 || eqb (k .state) 3) ≡ true
+    wide (inl h) = rw h
+    wide (inr e) = rw e (or-true (hasOctets (k .layout)))
 
 -- ---- each way through the checks of a routing
 
@@ -110,18 +107,15 @@ module _ (mode service match : ℕ) (tags : List ℕ) where
       pub found-graphic : (n : ℕ) (l : Layout) → graphic mode ≡ true → n ≡ dictionaryNumber mode tags
           → sampleOf l ≡ dictionarySample mode tags → soundLayout l
           → RoutedTo mode service match tags (record { number = n; config = configured l emptyDimmer })
-      unfolding routingNumber tagsNumber routed subsetsOf allInRange
+      unfolding routingNumber tagsNumber routed subsetsOf
       found-graphic n l g e sample sound =
           record {
             number = rw (known, fits, g) e;
             config = λ z. rw (governing-open (configured l emptyDimmer) mode refl, g, graphic-not-dimming mode g, sample);
             sound = λ z.
-                consistent-open (configured l emptyDimmer) (known-state mode known) sound (omega arith) refl
-                (inl (wide (rw (← sample) at (accepted-octets mode tags (sym e ∙ z)))));
+                consistent-open (configured l emptyDimmer) (known-state mode known) (layout-sound l sound) empty-dimmer-sound
+                (inl (accepted-has-octets l mode tags sample (sym e ∙ z)));
           }
-        where
-          wide : 1 ≤ length (take (l .width) (l .roles)) → 1 ≤ l .width
-          wide h = omega (arith, rw length-take at h)
 
       pub found-dimming : (n : ℕ) (d : Dimmer) → graphic mode ≡ false → dimming mode ≡ true → n ≡ dimmerNumber tags
           → mappingOf d ≡ dimmerMapping tags → soundDimmer d → ((k : ℕ) → getD tags k 0 < 256)
@@ -132,20 +126,20 @@ module _ (mode service match : ℕ) (tags : List ℕ) where
             number = rw (known, fits, g, m) e;
             config = λ z. rw (governing-open (configured emptyLayout d) mode refl, g, m, mapping);
             sound = λ z.
-                consistent-open (configured emptyLayout d) (known-state mode known) (omega arith) sound (ap mappingInRange mapping ∙ dimmer-mapping-in-range tags octets)
+                consistent-open (configured emptyLayout d) (known-state mode known) empty-layout-sound (dimmer-sound d tags sound mapping octets)
                 (inr (dimming-cases (λ k. eqb (k + 1) 2 || eqb (k + 1) 3 ≡ false) mode m refl refl));
           }
 
       -- neither: mode 0
       pub found-void : graphic mode ≡ false → dimming mode ≡ false
           → RoutedTo mode service match tags (record { number = 0; config = configured emptyLayout emptyDimmer })
-      unfolding routingNumber tagsNumber routed subsetsOf allInRange
+      unfolding routingNumber tagsNumber routed subsetsOf
       found-void g m =
           record {
             number = rw (known, fits, g, m);
             config = λ z. rw (governing-open (configured emptyLayout emptyDimmer) mode refl, g, m);
             sound = λ z.
-                consistent-open (configured emptyLayout emptyDimmer) (known-state mode known) (omega arith) (omega arith) refl
+                consistent-open (configured emptyLayout emptyDimmer) (known-state mode known) empty-layout-sound empty-dimmer-sound
                 (inr (rw (is-zero g m)));
           }
         where

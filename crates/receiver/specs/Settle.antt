@@ -8,14 +8,13 @@ use mathlib.Core.List.{List}
 use native.Mathlib.Omega.{arith}
 use lib.ListN.{length, getD, set}
 use lib.Seq.{getD-set-same, getD-set-other}
-use lib.Dec.{leb, eqb}
+use lib.Dec.{eqb}
 use borrow.Author.Tests.{eqb-true, eqb-false}
 use Rattle.tags.specs.ChoiceLaws.{and-left, and-right, or-true}
-use Rattle.tags.specs.Dimmer.{mappingInRange}
-use Rattle.tags.specs.Layout.{mappingOf}
+use Rattle.tags.specs.Layout.{blankLayout, blankDimmer, layoutSound, dimmerSound, hasOctets}
 use Rattle.receiver.specs.Governing.{Governing, closed}
 use Rattle.receiver.specs.Checks.{Sums}
-use Rattle.receiver.specs.Record.{blankLayout, blankDimmer, configAt, channelsOf, governingOf, knownState, consistentAt, consistentUpTo}
+use Rattle.receiver.specs.Record.{configAt, channelsOf, governingOf, knownState, consistentAt, consistentUpTo}
 use Rattle.receiver.specs.declared.Config.{Config}
 use Rattle.receiver.specs.declared.Receiver.{Receiver}
 
@@ -160,16 +159,11 @@ consistent-zero : (k : Config) → consistentAt k ≡ true
 unfolding consistentAt
 consistent-zero k e =
     let known = knownState (k .state) in
-    let width = leb (k .layout .width) 32 in
-    let colours = leb (k .layout .colours) 8 in
-    let count = leb (k .dimmer .count) 32 in
-    let wide = leb 1 (k .layout .width) || not (eqb (k .state) 2 || eqb (k .state) 3) in
-    let ranged = mappingInRange (mappingOf (k .dimmer)) in
-    let five = and-left (known && width && colours && count && wide) ranged e in
-    let four = and-left (known && width && colours && count) wide five in
-    let three = and-left (known && width && colours) count four in
-    let two = and-left (known && width) colours three in
-    rw (and-right known width two, and-right (known && width) colours three, and-right (known && width && colours) count four, or-true (leb 1 (k .layout .width)), and-right (known && width && colours && count && wide) ranged e)
+    let layout = layoutSound (k .layout) in
+    let dimmer = dimmerSound (k .dimmer) in
+    let three = and-left (known && layout && dimmer) _ e in
+    let two = and-left (known && layout) dimmer three in
+    rw (and-right known layout two, and-right (known && layout) dimmer three) (or-true (hasOctets (k .layout)))
 
 module _ (r : Receiver) (s : Sized r) (i : ℕ) (h : i < 64) (sound : consistentUpTo r 64 ≡ true) where
   pub consistent-putAt : (k : Config) → consistentAt k ≡ true → consistentUpTo (putAt r i k) 64 ≡ true

@@ -109,7 +109,8 @@ fn space_of(k: Config) -> u16
     if closed {
         return 0;
     }
-    k.layout.space
+    let layout = k.layout;
+    tags::kept::space(layout)
 }
 
 impl Receiver {

@@ -5,14 +5,13 @@ use super::Outcome;
 use super::Readings;
 use super::Receiver;
 use super::Reply;
-use tags::Dimmer;
-use tags::Layout;
+use tags::kept;
 ghost use mathlib.Core.Path.{_≡_};
 ghost use mathlib.Core.Bool.{false};
 ghost use Prim.Native.Nat.{_+_, _<_};
 ghost use Rattle.receiver.specs.Checks.{sums, overLimit};
 ghost use Rattle.receiver.specs.Effects.{refusal};
-ghost use Rattle.receiver.specs.Fresh.{fresh, emptyLayout, emptyDimmer};
+ghost use Rattle.receiver.specs.Fresh.{fresh};
 ghost use Rattle.receiver.specs.Contract.{Started, readingsOf};
 ghost use Rattle.receiver.specs.Settle.{closedAt, putAt, withSums};
 ghost use Rattle.receiver.specs.AnswerLaws.{settled};
@@ -22,21 +21,16 @@ ghost use Rattle.receiver.specs.RecordLaws.{waveStates};
 // The limit of each meter: ten million hours in microseconds.
 pub const LIMIT: u64 = 36_000_000_000_000_000;
 
-// The consistency rule for one channel: the state, three counts and the ranges of its levels.
+// The consistency rule for one channel.
 fn sound_channel(k: Config) -> bool
     ensures { λ r. ⌜ r ≡ consistentAt k ⌝ }
 {
     let s = k.state;
-    let w = k.layout.width;
-    let known = (s == 0) | (s == 1) | (s == 2) | (s == 3) | (s == 5) | (s == 7);
-    let wide = (1 <= w) | !((s == 2) | (s == 3));
+    let layout = k.layout;
     let dimmer = k.dimmer;
-    known
-        & (w <= 32)
-        & (k.layout.colours <= 8)
-        & (k.dimmer.count <= 32)
-        & wide
-        & tags::levels::in_range(dimmer)
+    let known = (s == 0) | (s == 1) | (s == 2) | (s == 3) | (s == 5) | (s == 7);
+    let wide = kept::has_octets(layout) | !((s == 2) | (s == 3));
+    known & kept::sound_layout(layout) & kept::sound_dimmer(dimmer) & wide
 }
 
 // Check 1: the record meets the consistency rule.
@@ -87,36 +81,12 @@ pub fn refused(number: u8) -> Reply
     }
 }
 
-// A layout and a mapping that say nothing.
-pub fn no_layout() -> Layout
-    ensures { λ r. ⌜ r ≡ emptyLayout ⌝ }
-{
-    Layout {
-        roles: [0u8; 32],
-        waves: [0u16; 8],
-        space: 0,
-        width: 0,
-        colours: 0,
-    }
-}
-
-pub fn no_dimmer() -> Dimmer
-    ensures { λ r. ⌜ r ≡ emptyDimmer ⌝ }
-{
-    Dimmer {
-        bases: [0u16; 32],
-        counts: [0u8; 32],
-        base: 0,
-        count: 0,
-    }
-}
-
 // A receiver with every channel closed.
 fn fresh_record(lit: u64, points: u64, lit_points: u64) -> Receiver
     ensures { λ r. ⌜ r ≡ fresh (sums lit points «lit_points») ⌝ }
 {
-    let layout = no_layout();
-    let dimmer = no_dimmer();
+    let layout = kept::no_layout();
+    let dimmer = kept::no_dimmer();
     Receiver {
         states: [0u8; 64],
         matches: [0u8; 64],

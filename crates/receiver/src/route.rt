@@ -1,8 +1,8 @@
 // Checks 6 to 14: what a message with Routing brings.
 use super::Config;
 use super::ServiceId;
-use super::record::no_dimmer;
-use super::record::no_layout;
+use tags::kept::no_dimmer;
+use tags::kept::no_layout;
 ghost use mathlib.Core.Path.{_≡_};
 ghost use Rattle.receiver.specs.Checks.{knownMode, serviceFits};
 ghost use Rattle.receiver.specs.Steps.{RoutedTo};

@@ -12,3 +12,4 @@ pub mod Levels
 pub mod SubsetLaws
 pub mod DimmerLaws
 pub mod LevelsLaws
+pub mod LayoutLaws

@@ -4,6 +4,7 @@ pub mod dictionary;
 pub mod dimming;
 mod gather;
 pub mod host;
+pub mod kept;
 pub mod levels;
 pub mod rows;
 mod tag;

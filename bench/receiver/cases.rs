@@ -1,0 +1,216 @@
+//! The messages that are measured. Each has the messages before it that open
+//! its channel; it has no configuration itself, except in the routing cases.
+
+const VOID: u8 = 0x00;
+const WAVE: u8 = 0x01;
+const FRAME: u8 = 0x02;
+const LEVELS: u8 = 0x18;
+
+pub struct Case {
+    pub name: String,
+    /// Offered once, in order, before the measurement.
+    pub opening: Vec<Vec<u8>>,
+    pub message: Vec<u8>,
+    /// The number of the reply that is expected.
+    pub number: u32,
+}
+
+/// The name of a layout, its tags in mode 1, and the octets of a sample.
+type Layout = (&'static str, &'static [u16], usize);
+
+const LAYOUTS: [Layout; 3] = [
+    // IDN-Stream, 3.4.11: X and Y with precision, three colours.
+    (
+        "sparse",
+        &[0x4200, 0x4010, 0x4210, 0x4010, 0x527E, 0x5214, 0x51CC],
+        7,
+    ),
+    // 3.4.10 without the second X: hint, intensity, six colours, X and Y.
+    (
+        "usual",
+        &[
+            0x4101, 0x5C10, 0x527E, 0x5214, 0x51CC, 0x51BD, 0x5241, 0x51E8, 0x4200, 0x4010, 0x4210,
+            0x4010,
+        ],
+        12,
+    ),
+    // Every signal, eight colours, four of them with a precise prefix.
+    (
+        "full",
+        &[
+            0x4101, 0x4200, 0x4010, 0x4210, 0x4010, 0x4220, 0x4010, 0x4201, 0x4010, 0x4211, 0x4010,
+            0x5C10, 0x4010, 0x5C20, 0x527E, 0x4010, 0x5214, 0x4010, 0x51CC, 0x51BD, 0x5C00, 0x4010,
+            0x5000, 0x5C00, 0x4010, 0x5000, 0x5C00, 0x4010, 0x5000, 0x5C00, 0x4010, 0x5000,
+        ],
+        32,
+    ),
+];
+
+/// Every case, in the order of the table.
+pub fn all() -> Vec<Case> {
+    let mut cases = Vec::new();
+    for points in [20, 100] {
+        cases.extend(LAYOUTS.map(|layout| samples(WAVE, points, layout)));
+    }
+    for points in [2, 480] {
+        cases.extend(LAYOUTS.map(|layout| samples(FRAME, points, layout)));
+    }
+    cases.push(levels("levels, 512 from base 1", &[]));
+    cases.push(levels("levels, 512 in 32 ranges", &ranges()));
+    cases.push(keep_alive());
+    cases.push(refused());
+    for layout in [LAYOUTS[0], LAYOUTS[2]] {
+        cases.push(route(layout));
+    }
+    cases.push(route_levels());
+    for open in [1, 8, 32, 64] {
+        cases.push(among(open, "frames", &opened_frame));
+    }
+    for open in [8, 32, 64] {
+        cases.push(among(open, "dimmers", &opened_dimmer));
+    }
+    cases
+}
+
+fn samples(kind: u8, points: usize, layout: Layout) -> Case {
+    let (name, tags, width) = layout;
+    let what = if kind == WAVE { "wave" } else { "frame" };
+    let mut data = vec![0, 0, 0x03, 0xE8];
+    data.extend(octets(points * width));
+    Case {
+        name: format!("{what}, {points} points, {name}"),
+        // The modes of waves and frames have the numbers of their types.
+        opening: vec![routing(0, 1, kind, &words(kind, tags))],
+        message: plain(0, kind, &data),
+        number: 0,
+    }
+}
+
+fn levels(name: &str, tags: &[u8]) -> Case {
+    let mut data = vec![0; 4];
+    data.extend(octets(512));
+    Case {
+        name: name.to_string(),
+        opening: vec![routing(0, 1, 4, tags)],
+        message: plain(0, LEVELS, &data),
+        number: 0,
+    }
+}
+
+/// A Void chunk on an open channel: every check that it meets is short, so
+/// that its cost is what every message costs.
+fn keep_alive() -> Case {
+    Case {
+        name: "keep-alive".to_string(),
+        message: plain(0, VOID, &[]),
+        ..samples(WAVE, 100, LAYOUTS[0])
+    }
+}
+
+/// Total Size is wrong: the check behind the record's own is the last.
+fn refused() -> Case {
+    let mut message = plain(0, VOID, &[]);
+    message[1] += 1;
+    Case {
+        name: "refused by 2".to_string(),
+        message,
+        number: 2,
+        ..keep_alive()
+    }
+}
+
+fn route(layout: Layout) -> Case {
+    let (name, tags, _) = layout;
+    Case {
+        name: format!("routing, {name}"),
+        opening: Vec::new(),
+        message: routing(0, 1, WAVE, &words(WAVE, tags)),
+        number: 0,
+    }
+}
+
+fn route_levels() -> Case {
+    Case {
+        name: "routing, 32 ranges".to_string(),
+        opening: Vec::new(),
+        message: routing(0, 1, 4, &ranges()),
+        number: 0,
+    }
+}
+
+/// The wave of 100 points in the sparse layout with so many open channels;
+/// another one cannot have mode 1 (check 15).
+fn among(open: u8, others: &str, opened: &dyn Fn(u8) -> Vec<u8>) -> Case {
+    let mut case = samples(WAVE, 100, LAYOUTS[0]);
+    case.opening.extend((1..open).map(opened));
+    case.name = match open {
+        1 => "wave, 1 open".to_string(),
+        _ => format!("wave, {open} open, {others}"),
+    };
+    case
+}
+
+fn opened_frame(channel: u8) -> Vec<u8> {
+    routing(channel, 1, 2, &words(FRAME, LAYOUTS[2].1))
+}
+
+fn opened_dimmer(channel: u8) -> Vec<u8> {
+    routing(channel, 1, 4, &ranges())
+}
+
+/// 32 tags 43 of 16 levels each.
+fn ranges() -> Vec<u8> {
+    (0u16..32)
+        .flat_map(|range| {
+            let [high, low] = (1 + 16 * range).to_be_bytes();
+            [0x43, high, low, 16]
+        })
+        .collect()
+}
+
+/// Tags as octets; the hint with a shutter (4101) is for waves alone.
+fn words(kind: u8, tags: &[u16]) -> Vec<u8> {
+    tags.iter()
+        .map(|tag| match *tag {
+            0x4101 if kind == FRAME => 0x4100,
+            other => other,
+        })
+        .flat_map(u16::to_be_bytes)
+        .collect()
+}
+
+/// A message with Routing, its tags filled up to whole words, and a Void chunk.
+fn routing(channel: u8, service: u8, mode: u8, tags: &[u8]) -> Vec<u8> {
+    let mut tags = tags.to_vec();
+    while tags.len() % 4 != 0 {
+        tags.push(0);
+    }
+    let mut behind = vec![(tags.len() / 4) as u8, 0x01, service, mode];
+    behind.extend(tags);
+    sized(0xC0 | channel, VOID, &behind)
+}
+
+/// A message without configuration.
+fn plain(channel: u8, kind: u8, data: &[u8]) -> Vec<u8> {
+    sized(0x80 | channel, kind, data)
+}
+
+fn sized(second: u8, kind: u8, behind: &[u8]) -> Vec<u8> {
+    let mut message = ((8 + behind.len()) as u16).to_be_bytes().to_vec();
+    message.extend([second, kind, 0, 0, 0, 9]);
+    message.extend(behind);
+    message
+}
+
+/// A fixed sequence, so that every run measures the same samples.
+fn octets(count: usize) -> Vec<u8> {
+    let mut state = 0x2545_F491u32;
+    (0..count)
+        .map(|_| {
+            state ^= state << 13;
+            state ^= state >> 17;
+            state ^= state << 5;
+            (state >> 11) as u8
+        })
+        .collect()
+}

@@ -1,0 +1,52 @@
+//! Nanoseconds a message, of both receivers in turn.
+
+use crate::cases::Case;
+use crate::hosts::{Host, Proved, Second};
+use std::time::{Duration, Instant};
+
+/// A run is shorter than a turn of the scheduler, so that some are undisturbed.
+const RUN: Duration = Duration::from_micros(60);
+pub const RUNS: usize = 400;
+
+/// The best times in nanoseconds a message.
+#[derive(Clone, Copy)]
+pub struct Best {
+    pub proved: f64,
+    pub second: f64,
+}
+
+impl Best {
+    pub fn ratio(&self) -> f64 {
+        self.proved / self.second
+    }
+}
+
+pub fn best(case: &Case) -> Best {
+    let (mut proved, mut second) = (Proved::open(case), Second::open(case));
+    let times = [
+        fitting(&mut proved, &case.message),
+        fitting(&mut second, &case.message),
+    ];
+    let mut best = Best {
+        proved: f64::INFINITY,
+        second: f64::INFINITY,
+    };
+    // The two alternate, so that a slow moment does not meet one alone.
+    for _ in 0..RUNS {
+        best.proved = best.proved.min(run(&mut proved, &case.message, times[0]));
+        best.second = best.second.min(run(&mut second, &case.message, times[1]));
+    }
+    best
+}
+
+/// How many messages a run has; to find it out also warms up.
+fn fitting(host: &mut dyn Host, octets: &[u8]) -> usize {
+    let one = run(host, octets, 100).min(run(host, octets, 100));
+    (RUN.as_nanos() as f64 / one).max(1.0) as usize
+}
+
+fn run(host: &mut dyn Host, octets: &[u8], times: usize) -> f64 {
+    let start = Instant::now();
+    host.repeat(octets, times);
+    start.elapsed().as_nanos() as f64 / times as f64
+}
