@@ -1,9 +1,14 @@
 /*
- * The tag layer of the channel receiver, for C hosts.
+ * The channel receiver and its tag layer, for C hosts.
  *
- * Sections: 1 refusal numbers, 2 the dictionary check, 3 samples to rows,
- * 4 dimmer levels. Checks and limits are those of document 01; the tags are
- * those of IDN-Stream, Revision 001, 3.4 and 4.4.
+ * Sections: 1 refusal numbers of the tag layer, 2 the dictionary check,
+ * 3 samples to rows, 4 dimmer levels, 5 the receiver with all 23 numbers.
+ * Checks and limits are those of document 01; messages and tags are those of
+ * IDN-Stream, Revision 001.
+ *
+ * Link target/staticlib/libreceiver.a (`rt staticlib receiver`) for section 5
+ * and libtags.a (`rt staticlib tags`) for sections 2 to 4; each holds what it
+ * needs of the other.
  *
  * For every function: the octets and tags lent need not be aligned and need
  * not have been checked; they are not changed, and no pointer is kept. The

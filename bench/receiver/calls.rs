@@ -67,19 +67,14 @@ pub fn start() -> Outcome {
     unsafe { mewkoast_start(0, 0, 0) }
 }
 
-/// The next outcome goes to `after`, which is another place than `before`: the
-/// result can then be written there by the call itself, without a copy.
+/// A host that keeps the outcome in one place has two copies of it made around
+/// the call: the record goes to the stack as the argument, and the result, by
+/// way of the stack, to its place. gcc does the same in examples/host.c.
 #[inline(always)]
-pub fn message(
-    before: &Receiver,
-    octets: &[u8],
-    rows: &mut [i32],
-    levels: &mut [u8],
-    after: &mut Outcome,
-) {
-    *after = unsafe {
+pub fn message(kept: &mut Outcome, octets: &[u8], rows: &mut [i32], levels: &mut [u8]) {
+    *kept = unsafe {
         mewkoast_message(
-            *before,
+            kept.receiver,
             octets.as_ptr(),
             octets.len(),
             rows.as_mut_ptr(),

@@ -32,9 +32,7 @@ pub trait Host {
 }
 
 pub struct Proved {
-    /// The outcomes of the last message and of the one before.
-    outcomes: Box<[Outcome; 2]>,
-    last: usize,
+    kept: Box<Outcome>,
     rows: Vec<i32>,
     levels: Vec<u8>,
 }
@@ -49,8 +47,7 @@ pub struct Second {
 impl Proved {
     pub fn open(case: &Case) -> Proved {
         let mut host = Proved {
-            outcomes: Box::new([calls::start(); 2]),
-            last: 0,
+            kept: Box::new(calls::start()),
             rows: vec![-7; NUMBERS],
             levels: vec![7; OCTETS],
         };
@@ -61,27 +58,14 @@ impl Proved {
 
 impl Host for Proved {
     fn offer(&mut self, octets: &[u8]) {
-        let [first, second] = &mut *self.outcomes;
-        let (before, after) = match self.last {
-            0 => (first, second),
-            _ => (second, first),
-        };
-        calls::message(
-            &before.receiver,
-            octets,
-            &mut self.rows,
-            &mut self.levels,
-            after,
-        );
-        self.last ^= 1;
-        black_box((&self.rows, &self.levels, after));
+        calls::message(&mut self.kept, octets, &mut self.rows, &mut self.levels);
+        black_box((&self.rows, &self.levels, &self.kept));
     }
 
     fn seen(&self) -> Seen<'_> {
-        let outcome = &self.outcomes[self.last];
         Seen {
-            reply: outcome.reply.own(),
-            readings: calls::readings(&outcome.receiver),
+            reply: self.kept.reply.own(),
+            readings: calls::readings(&self.kept.receiver),
             rows: &self.rows,
             levels: &self.levels,
         }

@@ -89,6 +89,7 @@ fn share(cases: &[Case], bests: &[Best]) {
         100.0 * fixed.proved / wave.proved,
         100.0 * fixed.second / wave.second
     );
+    println!("one copy of a record: {:.0} ns", time::best_copy());
 }
 
 /// The deepest stack of any case, and the sizes of what is handed over.

@@ -1,12 +1,15 @@
 //! Nanoseconds a message, of both receivers in turn.
 
+use crate::calls::Receiver;
 use crate::cases::Case;
 use crate::hosts::{Host, Proved, Second};
+use std::hint::black_box;
 use std::time::{Duration, Instant};
 
 /// A run is shorter than a turn of the scheduler, so that some are undisturbed.
 const RUN: Duration = Duration::from_micros(60);
 pub const RUNS: usize = 400;
+const COPIES: usize = 300;
 
 /// The best times in nanoseconds a message.
 #[derive(Clone, Copy)]
@@ -49,4 +52,19 @@ fn run(host: &mut dyn Host, octets: &[u8], times: usize) -> f64 {
     let start = Instant::now();
     host.repeat(octets, times);
     start.elapsed().as_nanos() as f64 / times as f64
+}
+
+/// The best time of one copy of a record, which the calls make several times.
+pub fn best_copy() -> f64 {
+    let mut records = vec![[7u8; size_of::<Receiver>()]; 2];
+    let mut best = f64::INFINITY;
+    for _ in 0..RUNS {
+        let start = Instant::now();
+        for _ in 0..COPIES {
+            let (from, to) = black_box(&mut records).split_at_mut(1);
+            to[0].copy_from_slice(&from[0]);
+        }
+        best = best.min(start.elapsed().as_nanos() as f64 / COPIES as f64);
+    }
+    best
 }
