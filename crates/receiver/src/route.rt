@@ -1,9 +1,12 @@
 // Checks 6 to 14: what a message with Routing brings.
 use super::Config;
 use super::ServiceId;
+use tags::Dimmer;
+use tags::Layout;
 use tags::kept::no_dimmer;
 use tags::kept::no_layout;
 ghost use mathlib.Core.Path.{_≡_};
+ghost use Prim.Native.Nat.{_+_, _≤_};
 ghost use Rattle.receiver.specs.Checks.{knownMode, serviceFits};
 ghost use Rattle.receiver.specs.Steps.{RoutedTo};
 
@@ -41,6 +44,21 @@ pub fn none_found(number: u8) -> Found
     Found { number, config }
 }
 
+// What routing to a mode brings, with the number of its tags' check.
+fn routed_to(number: u8, mode: u8, match_bits: u8, layout: Layout, dimmer: Dimmer) -> Found
+    requires { ⌜ mode ≤ 6 ⌝ }
+    ensures { λ r. ⌜ r ≡ record { number = number; config = record { state = mode + 1; «match_bits» = «match_bits»; layout = layout; dimmer = dimmer } } ⌝ }
+{
+    let config = Config {
+        state: mode + 1,
+        match_bits,
+        layout,
+        dimmer,
+    };
+    Found { number, config }
+}
+
+// Checks 6 to 14 of a message with Routing.
 pub fn route(mode: u8, service: ServiceId, match_bits: u8, tags: &[u8]) -> Found
     ensures { λ r. ⌜ RoutedTo mode (service .0) «match_bits» (now (tags .entry)) r ⌝ }
 {
@@ -56,40 +74,13 @@ pub fn route(mode: u8, service: ServiceId, match_bits: u8, tags: &[u8]) -> Found
     if graphic {
         let checked = tags::dictionary::check(mode, tags);
         let layout = checked.layout;
-        let dimmer = no_dimmer();
-        let config = Config {
-            state: mode + 1,
-            match_bits,
-            layout,
-            dimmer,
-        };
-        return Found {
-            number: checked.number,
-            config,
-        };
+        return routed_to(checked.number, mode, match_bits, layout, no_dimmer());
     }
-    let layout = no_layout();
     let dims = (mode == 4) | (mode == 6);
     if dims {
         let mapped = tags::dimming::check(tags);
         let dimmer = mapped.dimmer;
-        let config = Config {
-            state: mode + 1,
-            match_bits,
-            layout,
-            dimmer,
-        };
-        return Found {
-            number: mapped.number,
-            config,
-        };
+        return routed_to(mapped.number, mode, match_bits, no_layout(), dimmer);
     }
-    let dimmer = no_dimmer();
-    let config = Config {
-        state: mode + 1,
-        match_bits,
-        layout,
-        dimmer,
-    };
-    Found { number: 0, config }
+    routed_to(0, mode, match_bits, no_layout(), no_dimmer())
 }

@@ -4,14 +4,14 @@ use borrow.Author.Needs.{needs}
 use borrow.Author.Tests.{not-true, not-false}
 use mathlib.Core.Path.{_≡_, sym, ap, _∙_}
 use mathlib.Core.Bool.{Bool, true, false, cond}
-use Prim.Native.Nat.{ℕ, _≤_}
+use Prim.Native.Nat.{ℕ, _+_, _≤_}
 use native.Mathlib.Omega.{arith}
 use lib.Dec.{eqb}
 use Rattle.tags.specs.Rows.{pointsIn, litIn}
 use Rattle.tags.specs.Choice.{refuse}
 use Rattle.tags.specs.Layout.{sampleOf}
 use Rattle.receiver.specs.Record.{governingOf}
-use Rattle.receiver.specs.Checks.{sums, isDrawing, body}
+use Rattle.receiver.specs.Checks.{sums, overLimit, isDrawing, body, meterNumber}
 use Rattle.receiver.specs.ChunkLaws.{litIn-le, points-few, within-limit, meter-idle, meter-drawing, meter-far}
 use Rattle.receiver.proofs.draw.meter_number.Statement.{statement}
 use Rattle.receiver.proofs.draw.meter_number.Tie as tie
@@ -88,29 +88,24 @@ add-over-3 c =
     rw (shown-are (c .before), counted (c .before .before .before .before)) (litIn-le _ _ _) in
     omega (arith, few (c .before .before .before .before))
 
+-- near a limit the number goes by what the chunk really adds
+near-number : (c : tie.After-lit-time)
+    → meterNumber (c .before .before .before .before .before .before .before .before .before .before .args .kind) (c .before .before .before .before .before .before .before .before .before .before .args .chunk .now) (governingOf (c .before .before .before .before .before .before .before .before .before .before .args .k)) (sums (c .before .before .before .before .before .before .before .before .before .before .args .lit) (c .before .before .before .before .before .before .before .before .before .before .args .points) (c .before .before .before .before .before .before .before .before .before .before .args .lit-points))
+    ≡ refuse (overLimit (sums (c .before .before .before .before .before .before .before .before .before .before .args .lit + c .lit-time .result) (c .before .before .before .before .before .before .before .before .before .before .args .points + c .before .before .before .before .points .result) (c .before .before .before .before .before .before .before .before .before .before .args .lit-points + c .before .lit .result))) 23
+near-number c =
+    let s = c .before .before .before .before .before .before .before .before .before .before in
+    meter-drawing (s .args .kind) (s .args .chunk .now) (s .args .k) (sums (s .args .lit) (s .args .points) (s .args .lit-points))
+    (c .before .before .before .before .points .result) (c .before .lit .result) (c .lit-time .result)
+    (drawing (c .before .before .before .before .before .before .before))
+    (counted (c .before .before .before .before))
+    (shown-are (c .before))
+    (c .lit-time .ensures ∙ ap (λ (t : ℕ). cond (eqb (c .before .lit .result) 0) 0 t) (c .before .before .before .duration-of .ensures .0))
+
 returns-3 : tie.Need-returns-3
-returns-3 c =
-    let s = c .before .before .before .before .before .before .before .before .before .before .before in
-    sym
-    (meter-drawing (s .args .kind) (s .args .chunk .now) (s .args .k) (sums (s .args .lit) (s .args .points) (s .args .lit-points))
-    (c .before .before .before .before .before .points .result) (c .before .before .lit .result) (c .before .lit-time .result)
-    (drawing (c .before .before .before .before .before .before .before .before))
-    (counted (c .before .before .before .before .before))
-    (shown-are (c .before .before))
-    (c .before .lit-time .ensures ∙ ap (λ (t : ℕ). cond (eqb (c .before .before .lit .result) 0) 0 t) (c .before .before .before .before .duration-of .ensures .0))
-    ∙ ap (λ (b : Bool). refuse b 23) (c .if3 .taken))
+returns-3 c = sym (near-number (c .before) ∙ ap (λ (b : Bool). refuse b 23) (c .if3 .taken))
 
 returns-4 : tie.Need-returns-4
-returns-4 c =
-    let s = c .before .before .before .before .before .before .before .before .before .before .before in
-    sym
-    (meter-drawing (s .args .kind) (s .args .chunk .now) (s .args .k) (sums (s .args .lit) (s .args .points) (s .args .lit-points))
-    (c .before .before .before .before .before .points .result) (c .before .before .lit .result) (c .before .lit-time .result)
-    (drawing (c .before .before .before .before .before .before .before .before))
-    (counted (c .before .before .before .before .before))
-    (shown-are (c .before .before))
-    (c .before .lit-time .ensures ∙ ap (λ (t : ℕ). cond (eqb (c .before .before .lit .result) 0) 0 t) (c .before .before .before .before .duration-of .ensures .0))
-    ∙ ap (λ (b : Bool). refuse b 23) (c .if3 .left))
+returns-4 c = sym (near-number (c .before) ∙ ap (λ (b : Bool). refuse b 23) (c .if3 .left))
 
 pub meter-number-spec : {M : Type 1} → statement M
 meter-number-spec =

@@ -1,7 +1,6 @@
 -- `receiver::route::route` meets its contract: each way out is one of the laws of a routing.
 use borrow.Author.Needs.{needs}
 use borrow.Author.Tests.{not-true, not-false}
-use native.Mathlib.Omega.{arith}
 use mathlib.Core.Path.{_≡_, sym, _∙_}
 use mathlib.Core.Bool.{true}
 use Rattle.receiver.specs.Checks.{knownMode, serviceFits}
@@ -31,47 +30,47 @@ returns-2 c =
     (c .none-found2 .ensures)
     (sym (c .before .before .service-fits .ensures) ∙ not-true _ (c .before .if2 .taken))
 
-add-t21 : tie.Need-add-t21
-add-t21 c = omega (arith, known-le (c .before .before .before .before .before .before .before .before .before .args .mode) (known-at (c .before .before .before .before .before .before)))
+routed-to-requires : tie.Need-routed-to-requires
+routed-to-requires c κs = known-le _ (known-at (c .before .before .before .before .before .before))
 
 returns-3 : tie.Need-returns-3
 returns-3 c =
-    let b = c .before .before .before .before in
+    let b = c .before .before .before .before .before in
     let a = b .before .before .before .before .before .args in
-    rw (c .no-dimmer .ensures)
+    rw (c .routed-to .ensures, c .before .no-dimmer .ensures)
     (found-graphic (a .mode) (a .service .0) (a .match-bits) (a .tags .now) (known-at (b .before .before)) (fits-at b) _ _
-    (c .before .before .before .if3 .taken)
-    (c .before .before .check .ensures .0)
-    (c .before .before .check .ensures .1 .0)
-    (c .before .before .check .ensures .1 .1))
+    (c .before .before .before .before .if3 .taken)
+    (c .before .before .before .check .ensures .0)
+    (c .before .before .before .check .ensures .1 .0)
+    (c .before .before .before .check .ensures .1 .1))
 
-add-t22 : tie.Need-add-t22
-add-t22 c = omega (arith, known-le (c .before .before .before .before .before .before .before .before .before .before .args .mode) (known-at (c .before .before .before .before .before .before .before)))
+routed-to-requires-2 : tie.Need-routed-to-requires-2
+routed-to-requires-2 c κs = known-le _ (known-at (c .before .before .before .before .before .before .before))
 
 returns-4 : tie.Need-returns-4
 returns-4 c =
-    let b = c .before .before .before .before .before in
+    let b = c .before .before .before .before .before .before in
     let a = b .before .before .before .before .before .args in
-    rw (c .before .before .before .no-layout .ensures)
+    rw (c .routed-to2 .ensures, c .before .no-layout .ensures)
     (found-dimming (a .mode) (a .service .0) (a .match-bits) (a .tags .now) (known-at (b .before .before)) (fits-at b) _ _
-    (c .before .before .before .before .if3 .left)
-    (c .before .before .if4 .taken)
-    (c .before .check2 .ensures .0)
-    (c .before .check2 .ensures .1 .0)
-    (c .before .check2 .ensures .1 .1)
+    (c .before .before .before .before .before .if3 .left)
+    (c .before .before .before .before .if4 .taken)
+    (c .before .before .before .check2 .ensures .0)
+    (c .before .before .before .check2 .ensures .1 .0)
+    (c .before .before .before .check2 .ensures .1 .1)
     (λ i. b .before .before .before .before .shared-slice-known .given i .fits))
 
-add-t23 : tie.Need-add-t23
-add-t23 c = omega (arith, known-le (c .before .before .before .before .before .before .before .before .before .args .mode) (known-at (c .before .before .before .before .before .before)))
+routed-to-requires-3 : tie.Need-routed-to-requires-3
+routed-to-requires-3 c κs = known-le _ (known-at (c .before .before .before .before .before .before))
 
 returns-5 : tie.Need-returns-5
 returns-5 c =
-    let b = c .before .before .before .before in
+    let b = c .before .before .before .before .before in
     let a = b .before .before .before .before .before .args in
-    rw (c .before .before .no-layout .ensures, c .no-dimmer2 .ensures)
+    rw (c .routed-to3 .ensures, c .before .before .no-layout2 .ensures, c .before .no-dimmer2 .ensures)
     (found-void (a .mode) (a .service .0) (a .match-bits) (a .tags .now) (known-at (b .before .before)) (fits-at b)
-    (c .before .before .before .if3 .left)
-    (c .before .if4 .left))
+    (c .before .before .before .before .if3 .left)
+    (c .before .before .before .if4 .left))
 
 pub route-spec : {M : Type 1} → statement M
 route-spec =
@@ -85,12 +84,13 @@ route-spec =
     returns-2
     (λ c κs. search needs)
     (λ c κs. search needs)
-    add-t21
+    routed-to-requires
     returns-3
     (λ c κs. search needs)
     (λ c κs. search needs)
-    add-t22
+    routed-to-requires-2
     returns-4
     (λ c κs. search needs)
-    add-t23
+    (λ c κs. search needs)
+    routed-to-requires-3
     returns-5)
