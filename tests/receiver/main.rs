@@ -2,11 +2,12 @@
 //!
 //! usage: receiver_compare [COUNT]
 //!        receiver_compare --write OCTETS LISTING [COUNT [SEED]]
+//!        receiver_compare --list OCTETS
 //!
 //! The first form offers COUNT messages (200,000 if not given). The second
 //! one writes about COUNT generated messages (5,000 if not given) end to end
 //! to the file OCTETS and what the listing program prints for them to the
-//! file LISTING.
+//! file LISTING. The third prints the other decoder's listing of a file.
 
 mod broken;
 mod calls;
@@ -38,6 +39,7 @@ fn main() -> ExitCode {
         ["--write", octets, text, count, seed] => number(count)
             .zip(number(seed))
             .map(|(count, seed)| write(octets, text, count, seed as u64)),
+        ["--list", octets] => Some(list(octets)),
         [count] => number(count).map(run),
         _ => None,
     };
@@ -47,6 +49,7 @@ fn main() -> ExitCode {
         None => {
             eprintln!("usage: receiver_compare [COUNT]");
             eprintln!("       receiver_compare --write OCTETS LISTING [COUNT [SEED]]");
+            eprintln!("       receiver_compare --list OCTETS");
             ExitCode::from(2)
         }
     }
@@ -90,4 +93,16 @@ fn write(octets: &str, text: &str, count: usize, seed: u64) -> bool {
         eprintln!("{error}");
     }
     written.is_ok()
+}
+
+/// Prints the other decoder's listing of a file of messages.
+fn list(octets: &str) -> bool {
+    match std::fs::read(octets) {
+        Ok(stream) => print!("{}", listing(&stream)),
+        Err(error) => {
+            eprintln!("{error}");
+            return false;
+        }
+    }
+    true
 }
