@@ -47,7 +47,7 @@ pub struct Second {
 impl Proved {
     pub fn open(case: &Case) -> Proved {
         let mut host = Proved {
-            kept: Box::new(calls::start()),
+            kept: Box::new(calls::start([0; 3])),
             rows: vec![-7; NUMBERS],
             levels: vec![7; OCTETS],
         };
@@ -58,7 +58,12 @@ impl Proved {
 
 impl Host for Proved {
     fn offer(&mut self, octets: &[u8]) {
-        calls::message(&mut self.kept, octets, &mut self.rows, &mut self.levels);
+        *self.kept = calls::message(
+            &self.kept.receiver,
+            octets,
+            &mut self.rows,
+            &mut self.levels,
+        );
         black_box((&self.rows, &self.levels, &self.kept));
     }
 

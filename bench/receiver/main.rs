@@ -10,11 +10,13 @@
 //! order. The third one offers the message of the case with this place, from
 //! 0, so many times inside `repeated_messages`, for a counter of instructions.
 
-mod calls;
 mod cases;
 mod hosts;
 mod stack;
 mod time;
+
+#[path = "../../tests/calls.rs"]
+mod calls;
 
 use cases::Case;
 use hosts::{Host, Proved, Second};

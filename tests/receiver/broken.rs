@@ -39,11 +39,12 @@ const fn routing(channel_mode: [u8; 2], words: [u8; 8]) -> [u8; 20] {
 
 /// A record with an open channel of each mode that has tags.
 pub fn opened(tally: &mut Tally) -> Receiver {
-    let (mut record, _) = calls::start([0; 3]);
+    let mut record = calls::start([0; 3]).receiver;
     for octets in ROUTINGS {
-        let (next, reply) = calls::message(&record, &octets, &mut [], &mut []);
+        let next = calls::message(&record, &octets, &mut [], &mut []);
+        let reply = next.reply.own();
         tally.same(reply.number == 0, || format!("a routing: {reply:?}"));
-        record = next;
+        record = next.receiver;
     }
     record
 }
@@ -159,7 +160,8 @@ impl Copies<'_> {
     fn refused(&mut self, copy: &Receiver, octets: &[u8]) {
         let mut rows = [-5; 48];
         let mut levels = [5; 1024];
-        let (back, reply) = calls::message(copy, octets, &mut rows, &mut levels);
+        let back = calls::message(copy, octets, &mut rows, &mut levels);
+        let reply = back.reply.own();
         let expected = Reply {
             number: 1,
             ..Reply::default()
@@ -170,7 +172,7 @@ impl Copies<'_> {
         self.tally
             .same(reply == expected, || format!("{way}: {reply:?}"));
         self.tally
-            .same(back == *copy, || format!("{way}: another record"));
+            .same(back.receiver == *copy, || format!("{way}: another record"));
         self.tally
             .same(rows == [-5; 48] && levels == [5; 1024], || {
                 format!("{way}: the slices")

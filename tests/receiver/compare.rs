@@ -42,7 +42,8 @@ impl Both {
     fn start(readings: [u64; 3], tally: &mut Tally) -> Both {
         let [lit, points, lit_points] = readings;
         let (second, expected) = Receiver::start(lit, points, lit_points);
-        let (proved, reply) = calls::start(readings);
+        let started = calls::start(readings);
+        let (proved, reply) = (started.receiver, started.reply.own());
         tally.same(reply == expected, || {
             format!("start {readings:?}: {reply:?}")
         });
@@ -68,7 +69,8 @@ impl Both {
         let expected = self
             .second
             .message(octets, own_rows.slice(), own_levels.slice());
-        let (after, reply) = calls::message(&self.proved, octets, rows.slice(), levels.slice());
+        let next = calls::message(&self.proved, octets, rows.slice(), levels.slice());
+        let (after, reply) = (next.receiver, next.reply.own());
         let readings = calls::readings(&after);
         tally.messages += 1;
         tally.number(reply.number);

@@ -10,9 +10,11 @@
 //! file LISTING. The third prints the other decoder's listing of a file.
 
 mod broken;
-mod calls;
 mod compare;
 mod tally;
+
+#[path = "../calls.rs"]
+mod calls;
 
 use decoder::end_to_end::end_to_end;
 use decoder::generate::stream;

@@ -1,6 +1,6 @@
 //! mewkoast_mapping and mewkoast_levels against the second decoder.
 
-use crate::foreign::{self, DimmerMapping};
+use crate::calls::{self, DimmerMapping};
 use crate::tally::{hexadecimal, refusal, Outcome, Tally};
 use decoder::dimmer::{check, place, Map, PLACES};
 
@@ -52,7 +52,7 @@ fn described(map: &Map, tags: &[u8]) -> DimmerMapping {
 /// Offers dimmer tags to both sides; gives the mapping if both accept it and
 /// describe it alike.
 pub fn compare_mapping(tally: &mut Tally, tags: &[u8]) -> Option<Accepted> {
-    let given = foreign::mapping(tags);
+    let given = calls::mapping(tags);
     let expected = check(tags);
     let number = *expected.as_ref().err().unwrap_or(&0);
     let same = match &expected {
@@ -94,7 +94,7 @@ pub fn compare_levels(
     let result = place(&accepted.expected, u32::from(mode), levels, &mut expected);
     let count = result.unwrap_or(0);
     let lent = &mut given[..PLACES + more];
-    let returned = foreign::levels(accepted.given, mode, levels, lent);
+    let returned = calls::levels(accepted.given, mode, levels, lent);
     let same =
         returned == count && given[..PLACES] == expected && given[PLACES..] == unchanged[PLACES..];
     tally.case(same, || {

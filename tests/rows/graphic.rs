@@ -1,6 +1,6 @@
 //! mewkoast_layout and mewkoast_draw against the second decoder.
 
-use crate::foreign::{self, SampleLayout};
+use crate::calls::{self, SampleLayout};
 use crate::tally::{hexadecimal, refusal, Outcome, Tally};
 use decoder::dictionary::{check, Layout, Part, Wavelength};
 use decoder::rows::{lit, row};
@@ -59,7 +59,7 @@ fn described(layout: &Layout) -> SampleLayout {
 /// Offers a dictionary to both sides; gives the layout if both accept it and
 /// describe it alike.
 pub fn compare_layout(tally: &mut Tally, mode: u8, tags: &[u8]) -> Option<Accepted> {
-    let given = foreign::layout(mode, tags);
+    let given = calls::layout(mode, tags);
     let expected = check(u32::from(mode), tags);
     let number = *expected.as_ref().err().unwrap_or(&0);
     let same = match &expected {
@@ -117,7 +117,7 @@ pub fn compare_draw(
             count += usize::from(lit(&numbers));
         }
     }
-    let returned = foreign::draw(accepted.given, octets, &mut given[offset..offset + length]);
+    let returned = calls::draw(accepted.given, octets, &mut given[offset..offset + length]);
     tally.case(returned == count && given == expected, || {
         let place = (0..given.len()).find(|place| given[*place] != expected[*place]);
         let (parts, shown) = (&layout.parts, hexadecimal(octets));

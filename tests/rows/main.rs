@@ -2,13 +2,14 @@
 //! decoder. `part` runs a fixed part of the cases, `whole` runs more of them.
 
 mod dimmer;
-mod foreign;
 mod graphic;
 mod levels;
 mod samples;
 mod tags;
 mod tally;
 
+#[path = "../calls.rs"]
+mod calls;
 // The dictionaries and their generator are those of the dictionary comparison.
 #[path = "../dictionary/dictionaries.rs"]
 mod dictionaries;

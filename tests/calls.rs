@@ -1,0 +1,195 @@
+//! The calls of include/mewkoast.h, on slices.
+
+// Each test calls some of these.
+#![allow(dead_code)]
+
+use decoder::receiver as own;
+
+/// mewkoast_sample_layout.
+#[repr(C)]
+#[derive(Clone, Copy, Debug, PartialEq, Eq)]
+pub struct SampleLayout {
+    pub roles: [u8; 32],
+    pub waves: [u16; 8],
+    pub space: u16,
+    pub width: u8,
+    pub colours: u8,
+}
+
+/// mewkoast_checked_dictionary.
+#[repr(C)]
+#[derive(Clone, Copy)]
+pub struct CheckedDictionary {
+    pub number: u8,
+    pub layout: SampleLayout,
+}
+
+/// mewkoast_dimmer_mapping.
+#[repr(C)]
+#[derive(Clone, Copy, Debug, PartialEq, Eq)]
+pub struct DimmerMapping {
+    pub bases: [u16; 32],
+    pub counts: [u8; 32],
+    pub base: u16,
+    pub count: u8,
+}
+
+/// mewkoast_checked_mapping.
+#[repr(C)]
+#[derive(Clone, Copy)]
+pub struct CheckedMapping {
+    pub number: u8,
+    pub dimmer: DimmerMapping,
+}
+
+/// mewkoast_receiver.
+#[repr(C)]
+#[derive(Clone, Copy, Debug, PartialEq, Eq)]
+pub struct Receiver {
+    pub states: [u8; 64],
+    pub matches: [u8; 64],
+    pub layouts: [SampleLayout; 64],
+    pub dimmers: [DimmerMapping; 64],
+    pub lit: u64,
+    pub points: u64,
+    pub lit_points: u64,
+}
+
+/// mewkoast_reply.
+#[repr(C)]
+#[derive(Clone, Copy)]
+pub struct Reply {
+    number: u8,
+    channel: u8,
+    chunk: u8,
+    timestamp: u32,
+    space: u16,
+    points: u32,
+    lit_points: u32,
+    levels: u32,
+}
+
+/// mewkoast_outcome.
+#[repr(C)]
+#[derive(Clone, Copy)]
+pub struct Outcome {
+    pub receiver: Receiver,
+    pub reply: Reply,
+}
+
+#[repr(C)]
+struct Readings {
+    lit: u64,
+    points: u64,
+    lit_points: u64,
+}
+
+extern "C" {
+    fn mewkoast_layout(mode: u32, tags: *const u8, length: usize) -> CheckedDictionary;
+    fn mewkoast_draw(
+        layout: SampleLayout,
+        octets: *const u8,
+        n: usize,
+        rows: *mut i32,
+        rows_length: usize,
+    ) -> usize;
+    fn mewkoast_mapping(tags: *const u8, length: usize) -> CheckedMapping;
+    fn mewkoast_levels(
+        dimmer: DimmerMapping,
+        mode: u8,
+        octets: *const u8,
+        n: usize,
+        levels: *mut u8,
+        levels_length: usize,
+    ) -> usize;
+    fn mewkoast_start(lit: u64, points: u64, lit_points: u64) -> Outcome;
+    fn mewkoast_message(
+        receiver: Receiver,
+        octets: *const u8,
+        length: usize,
+        rows: *mut i32,
+        rows_length: usize,
+        levels: *mut u8,
+        levels_length: usize,
+    ) -> Outcome;
+    fn mewkoast_readings(receiver: Receiver) -> Readings;
+}
+
+impl Reply {
+    /// The reply as the second decoder has it.
+    pub fn own(&self) -> own::Reply {
+        own::Reply {
+            number: u32::from(self.number),
+            channel: self.channel,
+            kind: self.chunk,
+            timestamp: self.timestamp,
+            space: self.space,
+            points: self.points,
+            lit_points: self.lit_points,
+            levels: self.levels,
+        }
+    }
+}
+
+// SAFETY, of each call below: the pointers and lengths are those of slices,
+// and a slice that is written is borrowed alone.
+
+pub fn layout(mode: u8, tags: &[u8]) -> CheckedDictionary {
+    unsafe { mewkoast_layout(mode.into(), tags.as_ptr(), tags.len()) }
+}
+
+pub fn draw(layout: SampleLayout, octets: &[u8], rows: &mut [i32]) -> usize {
+    unsafe {
+        mewkoast_draw(
+            layout,
+            octets.as_ptr(),
+            octets.len(),
+            rows.as_mut_ptr(),
+            rows.len(),
+        )
+    }
+}
+
+pub fn mapping(tags: &[u8]) -> CheckedMapping {
+    unsafe { mewkoast_mapping(tags.as_ptr(), tags.len()) }
+}
+
+pub fn levels(dimmer: DimmerMapping, mode: u8, octets: &[u8], levels: &mut [u8]) -> usize {
+    unsafe {
+        mewkoast_levels(
+            dimmer,
+            mode,
+            octets.as_ptr(),
+            octets.len(),
+            levels.as_mut_ptr(),
+            levels.len(),
+        )
+    }
+}
+
+pub fn start([lit, points, lit_points]: [u64; 3]) -> Outcome {
+    unsafe { mewkoast_start(lit, points, lit_points) }
+}
+
+/// A host that keeps the outcome in one place has two copies of it made around
+/// the call: the record goes to the stack as the argument, and the result, by
+/// way of the stack, to its place. gcc does the same in examples/host.c.
+#[inline(always)]
+pub fn message(receiver: &Receiver, octets: &[u8], rows: &mut [i32], levels: &mut [u8]) -> Outcome {
+    unsafe {
+        mewkoast_message(
+            *receiver,
+            octets.as_ptr(),
+            octets.len(),
+            rows.as_mut_ptr(),
+            rows.len(),
+            levels.as_mut_ptr(),
+            levels.len(),
+        )
+    }
+}
+
+pub fn readings(receiver: &Receiver) -> [u64; 3] {
+    let readings = unsafe { mewkoast_readings(*receiver) };
+    [readings.lit, readings.points, readings.lit_points]
+}
