@@ -189,7 +189,9 @@ size_t mewkoast_levels(mewkoast_dimmer_mapping dimmer, uint8_t mode,
  * The receiver is a value: 64 channels and three meters, 9,880 octets. A host
  * keeps it between calls, copies it as it likes and hands it to the next call;
  * nothing is kept elsewhere. Its inner fields may change with a version: only
- * what the calls below give of it is promised.
+ * what the calls below give of it is promised. A host that keeps two outcomes
+ * by turns, each in a local variable, can spare a copy a message: gcc then has
+ * the call write the outcome where it is kept.
  */
 typedef struct {
     uint8_t states[64];
@@ -204,7 +206,11 @@ typedef struct {
 /*
  * The reply to a message. A refusal has 0 in all but the number:
  *
- *    1  the record given breaks the consistency rule; it is handed back
+ *    1  the record given breaks the consistency rule (a meter above its
+ *       limit; an unknown state; in a channel open in mode 1 or 2 counts
+ *       beyond their arrays or an empty sample; in one open in mode 4 or 6 a
+ *       count beyond its arrays, or a base or count out of range); it is
+ *       handed back
  *    2  the length is below 8, above 65,280, or not Total Size
  *    3  the top bit of octet 2 is 0
  *    4  the type is not 0x00, 0x01, 0x02 or 0x18

@@ -173,7 +173,8 @@ pub fn start([lit, points, lit_points]: [u64; 3]) -> Outcome {
 
 /// A host that keeps the outcome in one place has two copies of it made around
 /// the call: the record goes to the stack as the argument, and the result, by
-/// way of the stack, to its place. gcc does the same in examples/host.c.
+/// way of the stack, to its place. gcc does the same in examples/host.c;
+/// bench/receiver/turns.c spares the second.
 #[inline(always)]
 pub fn message(receiver: &Receiver, octets: &[u8], rows: &mut [i32], levels: &mut [u8]) -> Outcome {
     unsafe {

@@ -56,7 +56,38 @@ impl Proved {
     }
 }
 
+extern "C" {
+    /// turns.c: so many messages by a C host that keeps two outcomes by turns.
+    fn offer_in_turns(
+        kept: *mut Outcome,
+        times: usize,
+        octets: *const u8,
+        length: usize,
+        rows: *mut i32,
+        rows_length: usize,
+        levels: *mut u8,
+        levels_length: usize,
+    );
+}
+
 impl Host for Proved {
+    fn repeat(&mut self, octets: &[u8], times: usize) {
+        // SAFETY: the pointers and lengths are those of slices, and what is
+        // written is borrowed alone.
+        unsafe {
+            offer_in_turns(
+                &mut *self.kept,
+                times,
+                octets.as_ptr(),
+                octets.len(),
+                self.rows.as_mut_ptr(),
+                self.rows.len(),
+                self.levels.as_mut_ptr(),
+                self.levels.len(),
+            );
+        }
+    }
+
     fn offer(&mut self, octets: &[u8]) {
         *self.kept = calls::message(
             &self.kept.receiver,
@@ -109,12 +140,18 @@ impl Host for Second {
     }
 }
 
-/// True if both do the same with the messages of a case, and its message gets
-/// the number that is expected.
+/// True if both do the same with the messages of a case, offered one by one and
+/// repeated, and its message gets the number that is expected.
 pub fn agree(case: &Case) -> bool {
     let (mut proved, mut second) = (Proved::open(case), Second::open(case));
     let opened = proved.seen() == second.seen();
     proved.offer(&case.message);
     second.offer(&case.message);
-    opened && proved.seen() == second.seen() && proved.seen().reply.number == case.number
+    let offered = proved.seen() == second.seen() && proved.seen().reply.number == case.number;
+    let repeated = [2, 3].into_iter().all(|times| {
+        proved.repeat(&case.message, times);
+        second.repeat(&case.message, times);
+        proved.seen() == second.seen()
+    });
+    opened && offered && repeated
 }

@@ -79,17 +79,23 @@ fn line(case: &Case) -> Best {
     best
 }
 
-/// What the cost of every message is of a small wave.
+/// What the cost of every message is of a wave of 100 points.
 fn share(cases: &[Case], bests: &[Best]) {
-    let find = |name: &str| {
-        let place = cases.iter().position(|case| case.name == name).unwrap();
-        bests[place]
-    };
-    let (fixed, wave) = (find("keep-alive"), find("wave, 100 points, sparse"));
+    let place = |name: &str| cases.iter().position(|case| case.name == name).unwrap();
+    let fixed = bests[place("keep-alive")];
+    println!();
+    for layout in ["sparse", "usual", "full"] {
+        let name = format!("wave, 100 points, {layout}");
+        let wave = bests[place(&name)];
+        println!(
+            "keep-alive as a share of {name}: proved {:.0} %, Rust {:.0} %",
+            100.0 * fixed.proved / wave.proved,
+            100.0 * fixed.second / wave.second
+        );
+    }
     println!(
-        "keep-alive as a share of wave, 100 points, sparse: proved {:.0} %, Rust {:.0} %",
-        100.0 * fixed.proved / wave.proved,
-        100.0 * fixed.second / wave.second
+        "keep-alive by a host that keeps the outcome in one place: {:.0} ns",
+        time::best_in_one_place(&cases[place("keep-alive")])
     );
     println!("one copy of a record: {:.0} ns", time::best_copy());
 }

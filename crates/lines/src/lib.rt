@@ -64,6 +64,7 @@ pub fn entry(octets: &[u8]) -> usize
     size
 }
 
+// An octet as a size, with its range.
 fn wide(octet: u8) -> usize
     ensures { λ r. ⌜ (r ≡ octet) × (r < 256) ⌝ }
 {

@@ -7,8 +7,8 @@
 --     demand-3                    the claim, as the record Demand3; demand-3-never-falls, that no meter falls over any stretch of calls
 -- That every list has a run is in Runs.antt. Assumes nothing.
 use mathlib.Core.Path.{_≡_, refl, ap, ap₂, _∙_, sym, subst}
-use Prim.Native.Nat.{ℕ, _≤_}
-use native.Mathlib.Nat.{le-refl, le-trans}
+use Prim.Native.Nat.{ℕ}
+use native.Mathlib.Nat.{le-refl}
 use mathlib.Core.Bool.{true, false}
 use mathlib.Core.List.{List, [], _∷_, _++_, map, reverse, reverse-append, reverse-reverse}
 use lib.ListN.{length}
@@ -19,7 +19,7 @@ use Rattle.receiver.specs.Checks.{Sums, sums, overLimit}
 use Rattle.receiver.specs.CheckLaws.{NotAbove}
 use Rattle.receiver.specs.Record.{sumsOf, consistent}
 use Rattle.receiver.specs.LookBack.{Offer, Judged, running, judged, startingSums, historyNumbers, historySums}
-use Rattle.receiver.specs.LookBackLaws.{Agrees, running-grows, running-within, starting-within, started-agrees, reply-agrees, answered-agrees, answered-grows}
+use Rattle.receiver.specs.LookBackLaws.{not-above-trans, Agrees, running-grows, running-within, starting-within, started-agrees, reply-agrees, answered-agrees, answered-grows}
 use Rattle.receiver.specs.declared.Receiver.{Receiver}
 use Rattle.receiver.specs.declared.Outcome.{Outcome}
 use Rattle.receiver.specs.declared.Readings.{Readings}
@@ -117,11 +117,8 @@ pub data Since (r : Receiver) : Receiver → Type 0 where
   later : {r′ : Receiver} → Since r r′ → (κs : Lfts 3) (octets : RefT (List ℕ)) (rows : RefT (List ℤ)) (levels : RefT (List ℕ)) (o : Outcome) (rows′ : RefT (List ℤ)) (levels′ : RefT (List ℕ))
       → MessageCall κs r′ octets rows levels o rows′ levels′ → Since r (o .receiver)
 
-grows-trans : (a b c : Sums) → NotAbove a b → NotAbove b c → NotAbove a c
-grows-trans a b c p q = (le-trans (p .0) (q .0), le-trans (p .1) (q .1), le-trans (p .2) (q .2))
-
 pub demand-3-never-falls : {r r′ : Receiver} → Since r r′ → NotAbove (sumsOf r) (sumsOf r′)
 demand-3-never-falls here = (le-refl _, le-refl _, le-refl _)
 demand-3-never-falls {r} (later {r′ = r′} since κs octets rows levels o rows′ levels′ call) =
-    grows-trans (sumsOf r) (sumsOf r′) (sumsOf (o .receiver)) (demand-3-never-falls since)
+    not-above-trans (sumsOf r) (sumsOf r′) (sumsOf (o .receiver)) (demand-3-never-falls since)
     (answered-grows _ r′ (now octets) (now rows) (now levels) o (now rows′) (now levels′) call)

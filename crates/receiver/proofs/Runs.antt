@@ -2,18 +2,17 @@
 -- message's octets are numbers below 256. The run is made of records that hold what the definitions say; the functions' own answers
 -- are others in what no call shows.
 use mathlib.Core.Path.{_≡_, refl, sym, ap, _∙_, subst, subst₂}
-use Prim.Native.Nat.{ℕ, zero, suc, _+_, _-_, _*_, _/_, _%_, _<_, _≤_}
+use Prim.Native.Nat.{ℕ, _+_, _-_, _<_}
 use native.Mathlib.Nat.{div-add-mod'}
 use native.Mathlib.Decide.{decLt}
 use native.Mathlib.Omega.{arith}
-use mathlib.Core.Bool.{Bool, true, false, cond, _&&_, _||_}
+use mathlib.Core.Bool.{Bool, true, false, cond}
 use mathlib.Core.List.{List, [], _∷_, map, reverse, reverseAux, reverse-reverse}
-use mathlib.Core.Logic.{inl, inr}
-use lib.ListN.{length, getD, take, drop, length-set, length-replicate, length-map, length-take, List·getD-eq-default}
+use lib.ListN.{length, getD, take, drop, length-set, length-map, length-take, List·getD-eq-default}
 use lib.Seq.{take-length, getD-take, getD-drop}
 use lib.IntN.{ℤ}
 use lib.Dec.{eqb}
-use borrow.Author.Tests.{eqb-true, eqb-false, not-true}
+use borrow.Author.Tests.{eqb-true}
 use denote.Ref.{RefT, now}
 use Rattle.tags.specs.Choice.{refuse}
 use Rattle.tags.specs.ChoiceLaws.{first-zero-left, first-zero-right}
@@ -26,23 +25,24 @@ use Rattle.tags.specs.Layout.{sampleOf, subsetsOf, mappingOf, emptyLayout, empt
 use Rattle.tags.specs.declared.Layout.{Layout}
 use Rattle.tags.specs.declared.Dimmer.{Dimmer}
 use Rattle.tags.specs.Rows.{drawnOver}
-use Rattle.receiver.specs.Message.{channelOf, typeOf, timestampOf, routes, closes, modeOf, serviceOf, matchBits, dataStart, tagsOf, dataOf}
-use Rattle.receiver.specs.Governing.{Governing, graphic, dimming}
-use Rattle.receiver.specs.Checks.{Sums, sums, governs, knownMode, serviceFits, headerNumber, routingNumber, routeNumber, channelNumber, isDrawing, isDimming, body, pointsOf, litPointsOf, addedBy, plus, overLimit, numberOf}
+use Rattle.receiver.specs.Message.{channelOf, typeOf, routes, closes, modeOf, serviceOf, matchBits, dataStart, tagsOf, dataOf}
+use Rattle.receiver.specs.Header.{headerOf}
+use Rattle.receiver.specs.Governing.{graphic, dimming}
+use Rattle.receiver.specs.Checks.{Sums, sums, governs, knownMode, serviceFits, headerNumber, routingNumber, routeNumber, isDrawing, isDimming, body, pointsOf, litPointsOf, duration, plus, overLimit, numberOf}
 use Rattle.receiver.specs.Effects.{refusal}
 use Rattle.receiver.specs.Record.{configAt, channelsOf, governingOf, sumsOf, consistentAt, consistent}
 use Rattle.receiver.specs.LookBack.{Offer, startingSums}
 use Rattle.receiver.specs.LookBackLaws.{starting-within}
 use Rattle.receiver.specs.Fresh.{fresh, channels-fresh, consistent-fresh}
-use Rattle.receiver.specs.Settle.{Sized, closedAt, putAt, withSums}
+use Rattle.receiver.specs.Settle.{Sized, settled, shut, consistent-each}
 use Rattle.receiver.specs.Contract.{Started, messageNumber, Answered}
-use Rattle.receiver.specs.Steps.{RoutedTo, DrawnBy}
+use Rattle.receiver.specs.Steps.{RoutedTo, acceptance}
 use Rattle.receiver.specs.RouteLaws.{configured, found-unknown, found-misfit, found-graphic, found-dimming, found-void}
-use Rattle.receiver.specs.AnswerLaws.{settled, number-good, accepted-number, answered-refused, answered-closed, answered-accepted}
+use Rattle.receiver.specs.JudgeLaws.{channel-below, consistent-channels}
+use Rattle.receiver.specs.AnswerLaws.{number-good, accepted-number, answered-refused, answered-closed, answered-accepted}
 use Rattle.receiver.specs.declared.Config.{Config}
 use Rattle.receiver.specs.declared.Receiver.{Receiver}
 use Rattle.receiver.specs.declared.Outcome.{Outcome}
-use Rattle.receiver.specs.declared.Reply.{Reply}
 use Rattle.receiver.specs.declared.route.Found.{Found}
 use Rattle.receiver.specs.declared.draw.Drawn.{Drawn}
 use Rattle.receiver.proofs.History.{Ran, RanInOrder, Demand3, demand-3}
@@ -119,24 +119,14 @@ tags-octets m octets k = go (decLt k (dataStart m - 12))
 sized-fresh : (s : Sums) → Sized (fresh s)
 sized-fresh s = record { states = refl; matches = refl; layouts = refl; dimmers = refl }
 
-module _ (r : Receiver) (s : Sized r) (c : ℕ) where
-  sized-closedAt : Sized (closedAt r c)
-  sized-closedAt =
-      record { states = length-set (r .states) c 0 ∙ s .states; matches = s .matches; layouts = s .layouts; dimmers = s .dimmers }
-
-  sized-putAt : (k : Config) → Sized (putAt r c k)
-  sized-putAt k =
-      record {
-        states = length-set (r .states) c (k .state) ∙ s .states;
-        matches = length-set (r .matches) c (k .«match_bits») ∙ s .matches;
-        layouts = length-set (r .layouts) c (k .layout) ∙ s .layouts;
-        dimmers = length-set (r .dimmers) c (k .dimmer) ∙ s .dimmers;
-      }
-
-  sized-settled : (a b : Bool) (k : Config) → Sized (settled a b r c k)
-  sized-settled true b k = sized-closedAt
-  sized-settled false true k = sized-putAt k
-  sized-settled false false k = s
+sized-settled : (r : Receiver) → Sized r → (s : Sums) (c : ℕ) (k : Config) → Sized (settled r s c k)
+sized-settled r z s c k =
+    record {
+      states = length-set (r .states) c (k .state) ∙ z .states;
+      matches = length-set (r .matches) c (k .«match_bits») ∙ z .matches;
+      layouts = length-set (r .layouts) c (k .layout) ∙ z .layouts;
+      dimmers = length-set (r .dimmers) c (k .dimmer) ∙ z .dimmers;
+    }
 
 -- ---- every message has an answer
 
@@ -150,50 +140,40 @@ record Answer (r : Receiver) (m : List ℕ) (rows : List ℤ) (levels : List ℕ
 
 module _ (r : Receiver) (s : Sized r) (m : List ℕ) (octets : Octets m) (rows : List ℤ) (levels : List ℕ) where
   -- what governs an accepted message, as a configuration
-  governing-config : numberOf m (length rows) (length levels) (channelsOf r) (sumsOf r) ≡ 0
-      → (k : Config) × (governingOf k ≡ governs m (channelsOf r)) × (routes m ≡ true → consistentAt k ≡ true)
+  governing-config : consistent r ≡ true → numberOf m (length rows) (length levels) (channelsOf r) (sumsOf r) ≡ 0
+      → (k : Config) × (governingOf k ≡ governs m (channelsOf r)) × (consistentAt k ≡ true)
   unfolding numberOf routeNumber governs
-  governing-config accepted = by-routing (routes m) refl
+  governing-config good accepted = by-routing (routes m) refl
     where
       by-routing : (b : Bool) → routes m ≡ b
-          → (k : Config) × (governingOf k ≡ governs m (channelsOf r)) × (routes m ≡ true → consistentAt k ≡ true)
+          → (k : Config) × (governingOf k ≡ governs m (channelsOf r)) × (consistentAt k ≡ true)
       by-routing true e =
           let found = routed-found (modeOf m) (serviceOf m) (matchBits m) (tagsOf m) (tags-octets m octets) in
           let number : routingNumber (modeOf m) (serviceOf m) (tagsOf m) ≡ 0 =
           rw e at (first-zero-left (routeNumber m) _ (first-zero-right (headerNumber m) _ accepted)) in
           let passed = found .1 .number ∙ number in
-          (found .0 .config, rw e (found .1 .config passed), λ w. found .1 .sound passed)
-      by-routing false e = (configAt r (channelOf m), rw e, λ w. absurd (eqb-clash (sym e ∙ w)))
-        where
-          eqb-clash : false ≡ true → ⊥
-          eqb-clash q = let z : _≡_ {A = ℕ} 0 1 = cc in omega arith
+          (found .0 .config, rw e (found .1 .config passed), found .1 .sound passed)
+      by-routing false e = (
+        configAt r (channelOf m),
+        rw e,
+        consistent-each r 64 (consistent-channels r good) (channelOf m) (channel-below m),
+      )
 
   accepting : messageNumber r m (length rows) (length levels) ≡ 0 → Answer r m rows levels
   accepting zero-number =
       let good = number-good r m (length rows) (length levels) 0 zero-number refl in
       let accepted = accepted-number r m (length rows) (length levels) good zero-number in
-      let k = governing-config accepted in
+      let k = governing-config good accepted in
       let v = governingOf (k .0) in
       let d : Drawn =
       record {
+        time = cond (eqb (litPointsOf (typeOf m) (dataOf m) v) 0) 0 (duration (dataOf m));
         points = pointsOf (typeOf m) (dataOf m) v;
         lit = litPointsOf (typeOf m) (dataOf m) v;
         levels = cond (isDimming (typeOf m) v) (levelsWritten (v .mapping) (length (body (dataOf m)))) 0;
       } in
-      let risen = withSums r (plus (sumsOf r) (addedBy (typeOf m) (dataOf m) (governs m (channelsOf r)))) in
-      let risen-sized : Sized risen = record { states = s .states; matches = s .matches; layouts = s .layouts; dimmers = s .dimmers } in
-      let reply : Reply =
-      record {
-        number = 0;
-        channel = record { 0 = channelOf m };
-        chunk = typeOf m;
-        timestamp = timestampOf m;
-        space = v .sample .space;
-        points = d .points;
-        «lit_points» = d .lit;
-        levels = d .levels;
-      } in
-      let o : Outcome = record { receiver = settled (closes m) (routes m) risen (channelOf m) (k .0); reply = reply } in
+      let next = settled r (plus (sumsOf r) (sums (d .time) (d .points) (d .lit))) (channelOf m) (cond (closes m) (shut (k .0)) (k .0)) in
+      let o : Outcome = record { receiver = next; reply = acceptance (headerOf m) (k .0) d } in
       let rows₁ = cond (isDrawing (typeOf m) v) (drawnOver (v .sample .roles) (v .sample .waves) (body (dataOf m)) rows) rows in
       let levels₁ = cond (isDimming (typeOf m) v) (levelsAfter (v .mode) (v .mapping) (body (dataOf m)) levels) levels in
       record {
@@ -202,10 +182,9 @@ module _ (r : Receiver) (s : Sized r) (m : List ℕ) (octets : Octets m) (rows :
         levelsLeft = levels₁;
         answered =
             subst (λ (n : ℕ). Answered n r m rows levels o rows₁ levels₁) (sym zero-number)
-            (answered-accepted r m rows levels s good accepted (k .0) (k .1) (k .2) d reply rows₁ levels₁
-            (record { points = refl; lit = refl; written = refl; rows = refl; levels = refl })
-            refl);
-        sized = sized-settled risen risen-sized (channelOf m) (closes m) (routes m) (k .0);
+            (answered-accepted r m rows levels s good accepted (k .0) (k .1) (k .2) d rows₁ levels₁
+            (record { time = refl; points = refl; lit = refl; written = refl; rows = refl; levels = refl }));
+        sized = sized-settled r s _ (channelOf m) _;
       }
 
   answer : Answer r m rows levels
@@ -219,14 +198,14 @@ module _ (r : Receiver) (s : Sized r) (m : List ℕ) (octets : Octets m) (rows :
       by-number false true e f =
           let nineteen = eqb-true n 19 f in
           record {
-            outcome = record { receiver = closedAt r (channelOf m); reply = refusal 19 };
+            outcome = record { receiver = settled r (sumsOf r) (channelOf m) (shut (configAt r (channelOf m))); reply = refusal 19 };
             rowsLeft = rows;
             levelsLeft = levels;
             answered =
-                subst (λ (k : ℕ). Answered k r m rows levels (record { receiver = closedAt r (channelOf m); reply = refusal 19 }) rows levels)
+                subst (λ (k : ℕ). Answered k r m rows levels (record { receiver = settled r (sumsOf r) (channelOf m) (shut (configAt r (channelOf m))); reply = refusal 19 }) rows levels)
                 (sym nineteen)
-                (answered-closed r m rows levels s (number-good r m (length rows) (length levels) 19 nineteen refl));
-            sized = sized-closedAt r s (channelOf m);
+                (answered-closed r m rows levels s (number-good r m (length rows) (length levels) 19 nineteen refl) (configAt r (channelOf m)));
+            sized = sized-settled r s _ (channelOf m) _;
           }
       by-number false false e f =
           record {

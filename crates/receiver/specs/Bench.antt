@@ -1,7 +1,7 @@
 -- The bench table of document 01, cases a to h, worked out by the definitions: each row has what the definitions give and what the
 -- paper says, and one proof, by computation, says that they are equal.
 use mathlib.Core.Path.{_≡_, refl}
-use Prim.Native.Nat.{ℕ, zero, suc, _+_, _*_, _/_, _%_}
+use Prim.Native.Nat.{ℕ, _+_, _/_, _%_}
 use mathlib.Core.Bool.{Bool, cond}
 use mathlib.Core.List.{List, [], _∷_, _++_, map}
 use lib.ListN.{length, take, drop, replicate}
@@ -10,13 +10,13 @@ use Rattle.tags.specs.Rows.{placeOf}
 use Rattle.tags.specs.Rows.{colourOf, intensityOf, waveOf, slotOf, slotsOf, litAmong, litOf}
 use Rattle.tags.specs.Rows.{rowsOf, litIn}
 use Rattle.tags.specs.Tag.{definedGroup, isSingle, reservedSpace, knownTag, slotFor}
-use Rattle.tags.specs.Dictionary.{Sample, misplaced, repeated, tagNumber, roleFor, sampleWith, allowedBehind, read, step, walked, incomplete, endNumber, dictionaryNumber, dictionarySample}
+use Rattle.tags.specs.Dictionary.{misplaced, repeated, tagNumber, roleFor, sampleWith, allowedBehind, read, step, walked, incomplete, endNumber, dictionaryNumber, dictionarySample}
 use Rattle.tags.specs.Dimmer.{overlapsAny, badDimmerTag, clashingTag, dimmerTagNumber, mappingWith, readDimmer, stepDimmer, dimmed, dimmerNumber, dimmerMapping}
-use Rattle.tags.specs.Levels.{countSum, levelsFit, putLevels, putSubsets, levelsAfter, mappedSum, levelsWritten}
+use Rattle.tags.specs.Levels.{countSum, levelsFit}
 use Rattle.receiver.specs.Message.{tagsOf, dataOf}
 use Rattle.receiver.specs.Governing.{closed, routed}
 use Rattle.receiver.specs.Checks.{Sums, sums, headerNumber, tagsNumber, routingNumber, routeNumber, waveElsewhere, channelNumber, governs, pointsOf, litPointsOf, drawNumber, dimNumber, chunkNumber, addedBy, meterNumber, numberOf}
-use Rattle.receiver.specs.Effects.{replyOf, rowsAfter, sumsAfter, governingAfter}
+use Rattle.receiver.specs.Effects.{replyOf, rowsAfter, sumsAfter}
 use Rattle.receiver.specs.LookBack.{lookback, workedOut, judged, historySums}
 
 -- ---- what the rows of the table are made of

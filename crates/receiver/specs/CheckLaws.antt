@@ -1,15 +1,15 @@
 -- Laws about the checks that the claim over every list of messages cites: what an accepted message leaves of the meters.
-use mathlib.Core.Path.{_≡_, refl, sym, _∙_}
-use Prim.Native.Nat.{ℕ, zero, suc, _+_, _≤_, _<_}
-use mathlib.Core.Bool.{Bool, true, false, cond, not, _&&_, _||_}
+use mathlib.Core.Path.{_≡_, refl}
+use Prim.Native.Nat.{ℕ, _≤_}
+use mathlib.Core.Bool.{Bool, true, false, cond}
 use mathlib.Core.List.{List}
 use native.Mathlib.Omega.{arith}
-use lib.Dec.{ltb, eqb}
-use borrow.Author.Tests.{ltb-false, le-ltb, eqb-true, eq-eqb}
+use lib.Dec.{eqb}
+use borrow.Author.Tests.{eqb-true}
 use Rattle.tags.specs.ChoiceLaws.{first-zero-right, refuse-zero}
 use Rattle.receiver.specs.Message.{typeOf, dataOf}
 use Rattle.receiver.specs.Governing.{Governing}
-use Rattle.receiver.specs.Checks.{Sums, limit, governs, headerNumber, routeNumber, channelNumber, chunkNumber, addedBy, plus, overLimit, meterNumber, numberOf}
+use Rattle.receiver.specs.Checks.{Sums, governs, headerNumber, routeNumber, channelNumber, chunkNumber, addedBy, plus, overLimit, meterNumber, numberOf}
 use Rattle.receiver.specs.Effects.{sumsAfter}
 
 -- ---- the meters

@@ -1,7 +1,7 @@
 -- Laws about a chunk that checks 17 to 22 let pass: it has room, and its levels fit.
-use mathlib.Core.Path.{_≡_, refl, sym, ap, ap₂, _∙_}
-use Prim.Native.Nat.{ℕ, zero, suc, _+_, _-_, _*_, _/_, _≤_}
-use mathlib.Core.Bool.{Bool, true, false, false≢true, cond, not, _&&_, _||_}
+use mathlib.Core.Path.{_≡_, refl, sym, ap, _∙_}
+use Prim.Native.Nat.{ℕ, zero, suc, _+_, _-_, _*_, _≤_}
+use mathlib.Core.Bool.{Bool, true, false, cond, not, _&&_, _||_}
 use mathlib.Core.List.{List}
 use mathlib.Core.Logic.{⊎-elim}
 use native.Mathlib.Omega.{arith}
@@ -21,7 +21,8 @@ use Rattle.tags.specs.Levels.{levelsFit, levelsWritten, levelsDrawn, levelsCoun
 use Rattle.tags.specs.LevelsLaws.{levels-written-le}
 use Rattle.receiver.specs.Governing.{Governing, dimming}
 use Rattle.receiver.specs.Checks.{Sums, sums, limit, overLimit, isDrawing, isDimming, typeFits, wrongData, wrongCount, scm, duration, body, pointsOf, litPointsOf, addedBy, meterNumber, drawNumber, dimNumber, chunkNumber}
-use Rattle.receiver.specs.Record.{governingOf}
+use Rattle.receiver.specs.Record.{graphicState, dimmingState, governingOf}
+use Rattle.receiver.specs.RecordLaws.{graphic-sample, dimming-mapping}
 use Rattle.receiver.specs.Steps.{DrawnBy}
 use Rattle.receiver.specs.declared.Config.{Config}
 
@@ -100,18 +101,17 @@ dimming-fits t chunk v rows levels d e =
 
 -- ---- what governs a chunk that draws or dims
 
-state-sample : (s : ℕ) (k : Config) → k .state ≡ s → eqb (governingOf k .mode) 0 ≡ false
-    → (governingOf k .sample ≡ sampleOf (k .layout)) × (governingOf k .mapping ≡ mappingOf (k .dimmer))
-unfolding governingOf
-state-sample zero k e h = absurd (false≢true (sym (rw e at h)))
-state-sample (suc s) k e h = rw (e, eqb·suc-zero s) (refl, refl)
+-- a wave or frame goes by the channel's layout, dimmer levels by its mapping: the state says so
+pub drawing-state : (t : ℕ) (k : Config) → isDrawing t (governingOf k) ≡ true → graphicState (k .state) ≡ true
+drawing-state t k d =
+    rw (← mode-state k 0, ← mode-state k 1) (drawing-cases (λ a b. eqb b 1 || eqb b 2 ≡ true) t (governingOf k) d refl refl)
 
--- a wave or frame goes by the channel's layout, dimmer levels by its mapping: the channel is open
+pub isDimming-state : (t : ℕ) (k : Config) → isDimming t (governingOf k) ≡ true → dimmingState (k .state) ≡ true
+isDimming-state t k d =
+    rw (← mode-state k 3, ← mode-state k 5) (isDimming-cases (λ a b. eqb b 4 || eqb b 6 ≡ true) t (governingOf k) d refl refl)
+
 pub drawing-sample : (t : ℕ) (k : Config) → isDrawing t (governingOf k) ≡ true → governingOf k .sample ≡ sampleOf (k .layout)
-drawing-sample t k d = state-sample (k .state) k refl (drawing-cases (λ a b. eqb b 0 ≡ false) t (governingOf k) d refl refl) .0
-
-pub dimming-mapping : (t : ℕ) (k : Config) → isDimming t (governingOf k) ≡ true → governingOf k .mapping ≡ mappingOf (k .dimmer)
-dimming-mapping t k d = state-sample (k .state) k refl (isDimming-cases (λ a b. eqb b 0 ≡ false) t (governingOf k) d refl refl) .1
+drawing-sample t k d = graphic-sample k (drawing-state t k d)
 
 -- the mode is the state less 1, also where the channel is closed
 pub mode-of : (k : Config) → governingOf k .mode ≡ k .state - 1
@@ -161,25 +161,27 @@ not-dimming t v d = drawing-cases (λ a b. eqb a 0x18 && (eqb b 4 || eqb b 6) �
 
 module _ (t : ℕ) (chunk : List ℕ) (k : Config) (rows₀ : List ℤ) (levels₀ : List ℕ) where
   -- a wave or frame with room for its rows
-  pub drawn-rows : (points lit : ℕ) (rows₁ : List ℤ) → isDrawing t (governingOf k) ≡ true
+  pub drawn-rows : (time points lit : ℕ) (rows₁ : List ℤ) → isDrawing t (governingOf k) ≡ true
       → chunkNumber t chunk (governingOf k) (length rows₀) (length levels₀) ≡ 0
       → points ≡ pointsIn (sampleOf (k .layout) .roles) (body chunk)
       → lit
       ≡ cond (roomFor (sampleOf (k .layout) .roles) (body chunk) rows₀)
       (litIn (sampleOf (k .layout) .roles) (body chunk) (pointsIn (sampleOf (k .layout) .roles) (body chunk)))
       0
+      → time ≡ cond (eqb lit 0) 0 (duration chunk)
       → rows₁
       ≡ cond (roomFor (sampleOf (k .layout) .roles) (body chunk) rows₀)
       (drawnOver (sampleOf (k .layout) .roles) (sampleOf (k .layout) .waves) (body chunk) rows₀)
       rows₀
-      → DrawnBy t chunk (governingOf k) rows₀ levels₀ (record { points = points; lit = lit; levels = 0 }) rows₁ levels₀
+      → DrawnBy t chunk (governingOf k) rows₀ levels₀ (record { time = time; points = points; lit = lit; levels = 0 }) rows₁ levels₀
   unfolding pointsOf litPointsOf
-  drawn-rows points lit rows₁ d e ep el er =
+  drawn-rows time points lit rows₁ d e ep el et er =
       let sample = drawing-sample t k d in
       let room : roomFor (sampleOf (k .layout) .roles) (body chunk) rows₀ ≡ true =
       ap (λ (s : Sample). roomFor (s .roles) (body chunk) rows₀) (sym sample)
       ∙ drawing-room t chunk (governingOf k) (length rows₀) (length levels₀) d e in
       record {
+        time = rw (d, sample, ← (rw room at el)) et;
         points = rw (d, sample) ep;
         lit = rw (d, sample) (rw room at el);
         written = rw (not-dimming t (governingOf k) d);
@@ -192,14 +194,15 @@ module _ (t : ℕ) (chunk : List ℕ) (k : Config) (rows₀ : List ℤ) (levels�
       → chunkNumber t chunk (governingOf k) (length rows₀) (length levels₀) ≡ 0 → mode ≡ k .state - 1
       → n ≡ levelsCounted (mappingOf (k .dimmer)) (length (body chunk))
       → levels₁ ≡ levelsDrawn mode (mappingOf (k .dimmer)) (body chunk) levels₀
-      → DrawnBy t chunk (governingOf k) rows₀ levels₀ (record { points = 0; lit = 0; levels = n }) rows₀ levels₁
+      → DrawnBy t chunk (governingOf k) rows₀ levels₀ (record { time = 0; points = 0; lit = 0; levels = n }) rows₀ levels₁
   unfolding pointsOf litPointsOf levelsCounted levelsDrawn
   drawn-levels mode n levels₁ d e em en el =
-      let mapping = dimming-mapping t k d in
+      let mapping = dimming-mapping k (isDimming-state t k d) in
       let fits : levelsFit (mappingOf (k .dimmer)) (length (body chunk)) ≡ true =
       ap (λ (m : Mapping). levelsFit m (length (body chunk))) (sym mapping)
       ∙ dimming-fits t chunk (governingOf k) (length rows₀) (length levels₀) d e in
       record {
+        time = rw (not-drawing t (governingOf k) d);
         points = rw (not-drawing t (governingOf k) d);
         lit = rw (not-drawing t (governingOf k) d);
         written = rw (d, mapping) (rw fits at en);
@@ -209,9 +212,9 @@ module _ (t : ℕ) (chunk : List ℕ) (k : Config) (rows₀ : List ℤ) (levels�
 
   -- neither: nothing is written
   pub drawn-none : isDrawing t (governingOf k) ≡ false → isDimming t (governingOf k) ≡ false
-      → DrawnBy t chunk (governingOf k) rows₀ levels₀ (record { points = 0; lit = 0; levels = 0 }) rows₀ levels₀
+      → DrawnBy t chunk (governingOf k) rows₀ levels₀ (record { time = 0; points = 0; lit = 0; levels = 0 }) rows₀ levels₀
   unfolding pointsOf litPointsOf
-  drawn-none d m = record { points = rw d; lit = rw d; written = rw m; rows = rw d; levels = rw m }
+  drawn-none d m = record { time = rw d; points = rw d; lit = rw d; written = rw m; rows = rw d; levels = rw m }
 
 -- ---- the meters
 

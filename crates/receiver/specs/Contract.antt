@@ -1,13 +1,12 @@
 -- What the calls of the receiver promise (document 01, "Calls and layers" and "Checks, in order"), for every record, message and slice.
 use Prim.Native.Nat.{ℕ}
 use mathlib.Core.Path.{_≡_}
-use mathlib.Core.Bool.{Bool, true, false, cond, _||_}
+use mathlib.Core.Bool.{true, false, cond, _||_}
 use mathlib.Core.List.{List}
-use lib.ListN.{length}
 use lib.IntN.{ℤ}
 use lib.Dec.{eqb}
 use Rattle.tags.specs.Choice.{refuse}
-use Rattle.receiver.specs.Governing.{Governing, closed}
+use Rattle.receiver.specs.Governing.{closed}
 use Rattle.receiver.specs.Checks.{Sums, governs, overLimit, numberOf}
 use Rattle.receiver.specs.Effects.{refusal, replyOf, rowsAfter, levelsLeft, sumsAfter, governingAfter}
 use Rattle.receiver.specs.LookBack.{startingSums}

@@ -11,7 +11,7 @@ use Rattle.tags.specs.Rows.{drawnOver}
 use Rattle.tags.specs.Levels.{levelsAfter, levelsWritten}
 use Rattle.receiver.specs.Message.{channelOf, typeOf, timestampOf, routes, closes, dataOf}
 use Rattle.receiver.specs.Governing.{Governing, closed, routedBy}
-use Rattle.receiver.specs.Checks.{Sums, governs, isDrawing, isDimming, body, pointsOf, litPointsOf, addedBy, plus}
+use Rattle.receiver.specs.Checks.{Sums, isDrawing, isDimming, body, pointsOf, litPointsOf, addedBy, plus}
 use Rattle.receiver.specs.declared.Reply.{Reply}
 
 -- "a refusal has 0 in all but the number"

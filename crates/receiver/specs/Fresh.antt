@@ -1,14 +1,13 @@
 -- A receiver newly started: every channel closed, the meters as given.
-use mathlib.Core.Path.{_≡_, refl, ap, _∙_}
+use mathlib.Core.Path.{_≡_, refl}
 use Prim.Native.Nat.{ℕ, zero, suc}
-use mathlib.Core.Bool.{Bool, true, false, not, _&&_}
-use mathlib.Core.List.{List, []}
+use mathlib.Core.Bool.{true, false}
 use lib.ListN.{getD, replicate}
 use Rattle.tags.specs.Layout.{subsetsOf, emptyLayout, emptyDimmer, layoutSound, dimmerSound, hasOctets}
 use Rattle.tags.specs.Dimmer.{allInRange}
-use Rattle.receiver.specs.Governing.{Governing, closed}
+use Rattle.receiver.specs.Governing.{closed}
 use Rattle.receiver.specs.Checks.{Sums, overLimit}
-use Rattle.receiver.specs.Record.{configAt, channelsOf, governingOf, consistentAt, consistentUpTo, consistent}
+use Rattle.receiver.specs.Record.{channelsOf, governingOf, consistentAt, consistentUpTo, consistent}
 use Rattle.receiver.specs.declared.Receiver.{Receiver}
 
 abbrev pub fresh : Sums → Receiver

@@ -1,7 +1,7 @@
 -- What governs a message on a channel: whether the channel is open, its mode, its match bits and what its tags say (document 01,
 -- "One message" and "Meters and the look-back rule").
 use Prim.Native.Nat.{ℕ}
-use mathlib.Core.Bool.{Bool, true, false, cond, _&&_, _||_}
+use mathlib.Core.Bool.{Bool, true, false, cond, _||_}
 use mathlib.Core.List.{List}
 use lib.Dec.{eqb}
 use Rattle.tags.specs.Dictionary.{Sample, noSample, dictionarySample}

@@ -1,22 +1,21 @@
 -- Laws about judging a message: what a passed frame says of its lengths, what governs it, and its number.
-use mathlib.Core.Path.{_≡_, refl, sym, ap, _∙_}
-use Prim.Native.Nat.{ℕ, zero, suc, _+_, _*_, _%_, _<_, _≤_}
-use mathlib.Core.Bool.{Bool, true, false, false≢true, cond, not, _&&_, _||_}
+use mathlib.Core.Path.{_≡_, sym}
+use Prim.Native.Nat.{ℕ, _<_, _≤_}
+use mathlib.Core.Bool.{true, false, not, _&&_, _||_}
 use mathlib.Core.List.{List}
 use native.Mathlib.Omega.{arith}
 use lib.ListN.{length, length-drop}
 use lib.Dec.{ltb, eqb}
-use borrow.Author.Tests.{ltb-false, eqb-true, eq-eqb, not-true}
+use borrow.Author.Tests.{ltb-false, not-true}
 use Rattle.tags.specs.Choice.{refuse}
 use Rattle.tags.specs.ChoiceLaws.{and-left, and-right, or-false-left, or-false-right, first-zero-left, first-zero-right, first-refuses, first-assoc, refuse-zero, not-zero, refused-not-zero}
-use Rattle.receiver.specs.Message.{totalSize, topBit, channelOf, typeOf, configured, configLength, routes, serviceOf, modeOf, matchBits, dataStart, tagsOf, dataOf}
-use Rattle.receiver.specs.Governing.{Governing, routedBy}
-use Rattle.receiver.specs.Checks.{Sums, limit, overLimit, wrongLength, knownType, headerNumber, routingNumber, routeNumber, waveElsewhere, channelNumber, governs, chunkNumber, meterNumber, numberOf}
-use Rattle.receiver.specs.Record.{configAt, channelsOf, governingOf, sumsOf, consistentAt, consistentUpTo, consistent}
+use Rattle.receiver.specs.Message.{totalSize, topBit, channelOf, typeOf, configured, routes, serviceOf, modeOf, matchBits, dataStart, tagsOf, dataOf}
+use Rattle.receiver.specs.Checks.{Sums, limit, overLimit, wrongLength, knownType, headerNumber, routeNumber, channelNumber, governs, chunkNumber, meterNumber, numberOf}
+use Rattle.receiver.specs.Record.{configAt, channelsOf, governingOf, sumsOf, consistentUpTo, consistent}
 use Rattle.receiver.specs.RecordLaws.{waveStates, waveElsewhere-states}
+use Rattle.receiver.specs.Settle.{consistent-each}
 use Rattle.receiver.specs.Contract.{messageNumber}
 use Rattle.receiver.specs.Steps.{RoutedTo, Governed, Judgement}
-use Rattle.receiver.specs.declared.Config.{Config}
 use Rattle.receiver.specs.declared.Receiver.{Receiver}
 use Rattle.receiver.specs.declared.route.Found.{Found}
 
@@ -102,7 +101,7 @@ module _ (r : Receiver) (m : List ℕ) where
           record {
             number = rw (routing, ← found .number, passed, waveElsewhere-states r (channelOf m) 64, clash);
             config = λ z. rw routing (found .config z);
-            sound = λ z w. found .sound z;
+            sound = λ z good. found .sound z;
           }
 
   module _ (routing : routes m ≡ false) where
@@ -122,7 +121,7 @@ module _ (r : Receiver) (m : List ℕ) where
         record {
           number = rw (routing, opened);
           config = λ z. rw routing;
-          sound = λ z w. absurd (false≢true (sym routing ∙ w));
+          sound = λ z good. consistent-each r 64 (consistent-channels r good) (channelOf m) (channel-below m);
         }
 
 -- ---- the number
@@ -176,5 +175,5 @@ module _ (r : Receiver) (m : List ℕ) (rows levels : ℕ) where
               number =
                   rw (good, frame, first-assoc (routeNumber m) (channelNumber m (channelsOf r)) _, ← found .number, passed, ← found .config passed, e) q;
               config = λ z. found .config passed;
-              sound = λ z. found .sound passed;
+              sound = λ z. found .sound passed good;
             }

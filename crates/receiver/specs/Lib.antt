@@ -5,6 +5,7 @@ pub mod Effects
 pub mod LookBack
 pub mod Record
 pub mod Header
+pub mod HeaderLaws
 pub mod CheckLaws
 pub mod Contract
 pub mod RecordLaws

@@ -3,7 +3,7 @@
 -- the receiver's record is named here. Inside, the latest message stands first, so that "the latest earlier message" is found by
 -- plain recursion.
 use Prim.Native.Nat.{ℕ}
-use mathlib.Core.Bool.{Bool, cond, _&&_}
+use mathlib.Core.Bool.{cond, _&&_}
 use mathlib.Core.List.{List, [], _∷_, map, reverse}
 use lib.Dec.{eqb}
 use Rattle.receiver.specs.Message.{channelOf}

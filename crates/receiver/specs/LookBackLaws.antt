@@ -4,7 +4,6 @@ use Prim.Native.Nat.{ℕ, _+_}
 use native.Mathlib.Nat.{add-zero, add-assoc, le-refl, le-trans}
 use mathlib.Core.Bool.{Bool, true, false, cond}
 use mathlib.Core.List.{List, [], _∷_, _++_}
-use lib.ListN.{length}
 use lib.IntN.{ℤ}
 use lib.Dec.{eqb}
 use borrow.Author.Tests.{eqb-true}
@@ -49,7 +48,7 @@ replyOf-number m n v = go (eqb n 0) refl _ refl
 
 -- ---- the rule alone
 
-not-above-trans : (a b c : Sums) → NotAbove a b → NotAbove b c → NotAbove a c
+pub not-above-trans : (a b c : Sums) → NotAbove a b → NotAbove b c → NotAbove a c
 not-above-trans a b c p q = (le-trans (p .0) (q .0), le-trans (p .1) (q .1), le-trans (p .2) (q .2))
 
 -- what the rule works out never falls as the list grows: `late` stands in front, as the latest

@@ -1,9 +1,11 @@
 -- How the receiver's record is read, and the consistency rule of check 1 (document 01, "Checks, in order"). Only these readings of
 -- a record show in later calls: what governs each channel, the three meters, and whether it is consistent.
 use Prim.Native.Nat.{ℕ, zero, suc, _-_}
-use mathlib.Core.Bool.{Bool, true, false, cond, not, _&&_, _||_}
+use mathlib.Core.Bool.{Bool, true, cond, not, _&&_, _||_}
 use lib.ListN.{getD}
-use lib.Dec.{eqb}
+use lib.Dec.{leb, eqb}
+use Rattle.tags.specs.Dictionary.{noSample}
+use Rattle.tags.specs.Dimmer.{noMapping}
 use Rattle.tags.specs.Layout.{sampleOf, mappingOf, blankLayout, blankDimmer, layoutSound, dimmerSound, hasOctets}
 use Rattle.receiver.specs.Governing.{Governing, closed}
 use Rattle.receiver.specs.Checks.{Sums, overLimit}
@@ -20,7 +22,14 @@ configAt r c =
       dimmer = getD (r .dimmers) c blankDimmer;
     }
 
--- what it means: state 0 is closed, and a mode plus 1 is open in that mode
+-- the states of modes 1 and 2, and of modes 4 and 6
+abbrev pub graphicState : ℕ → Bool
+graphicState s = eqb s 2 || eqb s 3
+
+abbrev pub dimmingState : ℕ → Bool
+dimmingState s = eqb s 5 || eqb s 7
+
+-- what it means: state 0 is closed, and a mode plus 1 is open in that mode; the layout counts in modes 1 and 2, the mapping in 4 and 6
 unfoldable pub governingOf : Config → Governing
 governingOf k =
     cond (eqb (k .state) 0)
@@ -29,8 +38,8 @@ governingOf k =
       isOpen = true;
       mode = k .state - 1;
       match = k .«match_bits»;
-      sample = sampleOf (k .layout);
-      mapping = mappingOf (k .dimmer);
+      sample = cond (graphicState (k .state)) (sampleOf (k .layout)) noSample;
+      mapping = cond (dimmingState (k .state)) (mappingOf (k .dimmer)) noMapping;
     })
 
 -- what governs each channel by the record
@@ -43,16 +52,14 @@ sumsOf r = record { lit = r .lit; points = r .points; litPoints = r .«lit_point
 
 -- ---- check 1: the consistency rule
 
--- closed, or a known mode (0, 1, 2, 4, 6) plus 1
-abbrev pub knownState : ℕ → Bool
-knownState s = eqb s 0 || eqb s 1 || eqb s 2 || eqb s 3 || eqb s 5 || eqb s 7
-
--- a channel's state is known, its layout and its mapping are sound by the tag layer's tests (counts within their arrays, bases and
--- counts of levels in range), and a graphic channel (mode 1 or 2) has samples of at least one octet
+-- A channel is consistent by what is read of it: one open in mode 1 or 2 has samples of at least one octet and a sound layout, one open
+-- in mode 4 or 6 a sound mapping (the tag layer's tests: counts within their arrays, bases and counts of levels in range), and every
+-- other is closed or open in mode 0.
 unfoldable pub consistentAt : Config → Bool
 consistentAt k =
-    knownState (k .state) && layoutSound (k .layout) && dimmerSound (k .dimmer)
-    && (hasOctets (k .layout) || not (eqb (k .state) 2 || eqb (k .state) 3))
+    cond (graphicState (k .state))
+    (hasOctets (k .layout) && layoutSound (k .layout))
+    (cond (dimmingState (k .state)) (dimmerSound (k .dimmer)) (leb (k .state) 1))
 
 unfoldable pub consistentUpTo : Receiver → ℕ → Bool
 consistentUpTo r zero = true

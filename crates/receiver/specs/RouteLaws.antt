@@ -1,23 +1,24 @@
 -- Laws about routing: the known modes, and what a configuration of a known mode means.
-use mathlib.Core.Path.{_≡_, refl, sym, ap, _∙_}
-use Prim.Native.Nat.{ℕ, zero, suc, _+_, _-_, _<_, _≤_}
-use mathlib.Core.Bool.{Bool, true, false, false≢true, cond, not, _&&_, _||_}
-use mathlib.Core.Logic.{_⊎_, inl, inr, ⊎-elim}
+use mathlib.Core.Path.{_≡_, refl, sym, _∙_}
+use Prim.Native.Nat.{ℕ, suc, _+_, _-_, _<_, _≤_}
+use mathlib.Core.Bool.{Bool, true, false, false≢true, cond, _||_}
+use mathlib.Core.Logic.{⊎-elim}
 use native.Mathlib.Omega.{arith}
-use lib.Dec.{eqb}
+use native.Mathlib.Numerals.{add-one}
+use lib.Dec.{eqb, eqb·suc-suc}
 use lib.ListN.{getD}
 use borrow.Author.Tests.{eqb-true, ne-eqb}
 use mathlib.Core.List.{List}
-use Rattle.tags.specs.ChoiceLaws.{or-cases, or-true}
-use Rattle.tags.specs.Dictionary.{dictionaryNumber, dictionarySample}
-use Rattle.tags.specs.Dimmer.{dimmerNumber, dimmerMapping}
-use Rattle.tags.specs.Layout.{sampleOf, subsetsOf, mappingOf, soundLayout, soundDimmer, emptyLayout, emptyDimmer, layoutSound, dimmerSound, hasOctets}
-use Rattle.tags.specs.LayoutLaws.{layout-sound, dimmer-sound, accepted-has-octets, empty-layout-sound, empty-dimmer-sound}
+use Rattle.tags.specs.ChoiceLaws.{or-cases}
+use Rattle.tags.specs.Dictionary.{noSample, dictionaryNumber, dictionarySample}
+use Rattle.tags.specs.Dimmer.{noMapping, dimmerNumber, dimmerMapping}
+use Rattle.tags.specs.Layout.{sampleOf, mappingOf, soundLayout, soundDimmer, emptyLayout, emptyDimmer, layoutSound, dimmerSound, hasOctets}
+use Rattle.tags.specs.LayoutLaws.{layout-sound, dimmer-sound, accepted-has-octets}
 use Rattle.tags.specs.declared.Layout.{Layout}
 use Rattle.tags.specs.declared.Dimmer.{Dimmer}
-use Rattle.receiver.specs.Governing.{Governing, graphic, dimming, routed}
+use Rattle.receiver.specs.Governing.{graphic, dimming, routed}
 use Rattle.receiver.specs.Checks.{knownMode, serviceFits, tagsNumber, routingNumber}
-use Rattle.receiver.specs.Record.{governingOf, knownState, consistentAt}
+use Rattle.receiver.specs.Record.{governingOf, graphicState, dimmingState, consistentAt}
 use Rattle.receiver.specs.Steps.{RoutedTo}
 use Rattle.receiver.specs.declared.Config.{Config}
 use Rattle.receiver.specs.declared.route.Found.{Found}
@@ -44,13 +45,17 @@ module _ (P : ℕ → Type 0) where
 pub known-le : (mode : ℕ) → knownMode mode ≡ true → mode ≤ 6
 known-le mode e = known-cases (λ m. m ≤ 6) mode e (omega arith) (omega arith) (omega arith) (omega arith) (omega arith)
 
-pub known-state : (mode : ℕ) → knownMode mode ≡ true → knownState (mode + 1) ≡ true
-known-state mode e = known-cases (λ m. knownState (m + 1) ≡ true) mode e refl refl refl refl refl
-
 pub graphic-not-dimming : (mode : ℕ) → graphic mode ≡ true → dimming mode ≡ false
 graphic-not-dimming mode e = graphic-cases (λ m. dimming m ≡ false) mode e refl refl
 
 -- ---- a configuration that is open
+
+-- the state of a mode is graphic or dimming where the mode is
+state-graphic : (mode : ℕ) → graphicState (mode + 1) ≡ graphic mode
+state-graphic mode = rw add-one (λ i. eqb·suc-suc mode 1 i || eqb·suc-suc mode 2 i)
+
+state-dimming : (mode : ℕ) → dimmingState (mode + 1) ≡ dimming mode
+state-dimming mode = rw add-one (λ i. eqb·suc-suc mode 4 i || eqb·suc-suc mode 6 i)
 
 -- what a configuration with the state of a mode means
 pub governing-open : (k : Config) (mode : ℕ) → k .state ≡ mode + 1
@@ -59,25 +64,29 @@ pub governing-open : (k : Config) (mode : ℕ) → k .state ≡ mode + 1
       isOpen = true;
       mode = mode;
       match = k .«match_bits»;
-      sample = sampleOf (k .layout);
-      mapping = mappingOf (k .dimmer);
+      sample = cond (graphic mode) (sampleOf (k .layout)) noSample;
+      mapping = cond (dimming mode) (mappingOf (k .dimmer)) noMapping;
     }
 unfolding governingOf
 governing-open k mode e =
     let not-closed : eqb (mode + 1) 0 ≡ false = ne-eqb (mode + 1) 0 (omega arith) in
     let less : mode + 1 - 1 ≡ mode = omega arith in
-    rw (e, not-closed, less)
+    rw (e, not-closed, less, state-graphic mode, state-dimming mode)
 
--- a known state with a sound layout and a sound mapping is consistent, where a graphic one has an octet
-pub consistent-open : (k : Config) → knownState (k .state) ≡ true → layoutSound (k .layout) ≡ true → dimmerSound (k .dimmer) ≡ true
-    → (hasOctets (k .layout) ≡ true) ⊎ (eqb (k .state) 2 || eqb (k .state) 3 ≡ false) → consistentAt k ≡ true
-unfolding consistentAt
-consistent-open k known l d w = rw (known, l, d) (wide w)
-  where
-    wide : (hasOctets (k .layout) ≡ true) ⊎ (eqb (k .state) 2 || eqb (k .state) 3 ≡ false)
-        → hasOctets (k .layout) || not (eqb (k .state) 2 || eqb (k .state) 3) ≡ true
-    wide (inl h) = rw h
-    wide (inr e) = rw e (or-true (hasOctets (k .layout)))
+-- it is consistent where what is read of its mode is sound
+module _ (k : Config) (mode : ℕ) (e : k .state ≡ mode + 1) where
+  consistent-graphic : graphic mode ≡ true → hasOctets (k .layout) ≡ true → layoutSound (k .layout) ≡ true → consistentAt k ≡ true
+  unfolding consistentAt
+  consistent-graphic g h l = rw (e, state-graphic mode, g, h, l)
+
+  consistent-dimming : dimming mode ≡ true → dimmerSound (k .dimmer) ≡ true → consistentAt k ≡ true
+  unfolding consistentAt
+  consistent-dimming g d =
+      rw (e, state-graphic mode, state-dimming mode, dimming-cases (λ m. graphic m ≡ false) mode g refl refl, g) d
+
+  consistent-void : mode ≡ 0 → consistentAt k ≡ true
+  unfolding consistentAt
+  consistent-void z = rw (e, z)
 
 -- ---- each way through the checks of a routing
 
@@ -107,14 +116,13 @@ module _ (mode service match : ℕ) (tags : List ℕ) where
       pub found-graphic : (n : ℕ) (l : Layout) → graphic mode ≡ true → n ≡ dictionaryNumber mode tags
           → sampleOf l ≡ dictionarySample mode tags → soundLayout l
           → RoutedTo mode service match tags (record { number = n; config = configured l emptyDimmer })
-      unfolding routingNumber tagsNumber routed subsetsOf
+      unfolding routingNumber tagsNumber routed
       found-graphic n l g e sample sound =
           record {
             number = rw (known, fits, g) e;
             config = λ z. rw (governing-open (configured l emptyDimmer) mode refl, g, graphic-not-dimming mode g, sample);
             sound = λ z.
-                consistent-open (configured l emptyDimmer) (known-state mode known) (layout-sound l sound) empty-dimmer-sound
-                (inl (accepted-has-octets l mode tags sample (sym e ∙ z)));
+                consistent-graphic (configured l emptyDimmer) mode refl g (accepted-has-octets l mode tags sample (sym e ∙ z)) (layout-sound l sound);
           }
 
       pub found-dimming : (n : ℕ) (d : Dimmer) → graphic mode ≡ false → dimming mode ≡ true → n ≡ dimmerNumber tags
@@ -125,22 +133,18 @@ module _ (mode service match : ℕ) (tags : List ℕ) where
           record {
             number = rw (known, fits, g, m) e;
             config = λ z. rw (governing-open (configured emptyLayout d) mode refl, g, m, mapping);
-            sound = λ z.
-                consistent-open (configured emptyLayout d) (known-state mode known) empty-layout-sound (dimmer-sound d tags sound mapping octets)
-                (inr (dimming-cases (λ k. eqb (k + 1) 2 || eqb (k + 1) 3 ≡ false) mode m refl refl));
+            sound = λ z. consistent-dimming (configured emptyLayout d) mode refl m (dimmer-sound d tags sound mapping octets);
           }
 
       -- neither: mode 0
       pub found-void : graphic mode ≡ false → dimming mode ≡ false
           → RoutedTo mode service match tags (record { number = 0; config = configured emptyLayout emptyDimmer })
-      unfolding routingNumber tagsNumber routed subsetsOf
+      unfolding routingNumber tagsNumber routed
       found-void g m =
           record {
             number = rw (known, fits, g, m);
             config = λ z. rw (governing-open (configured emptyLayout emptyDimmer) mode refl, g, m);
-            sound = λ z.
-                consistent-open (configured emptyLayout emptyDimmer) (known-state mode known) empty-layout-sound empty-dimmer-sound
-                (inr (rw (is-zero g m)));
+            sound = λ z. consistent-void (configured emptyLayout emptyDimmer) mode refl (is-zero g m);
           }
         where
           clash : (b : Bool) → b ≡ false → b ≡ true → mode ≡ 0

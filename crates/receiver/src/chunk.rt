@@ -46,7 +46,7 @@ fn dim_number(dimmer: Dimmer, octets: usize, levels: usize) -> u8
 }
 
 // Checks 17 to 22.
-pub fn chunk_number(kind: u8, k: Config, chunk: &[u8], rows: usize, levels: usize) -> u8
+pub(crate) fn chunk_number(kind: u8, k: Config, chunk: &[u8], rows: usize, levels: usize) -> u8
     requires { ⌜ length (now chunk) ≤ 65280 ⌝ }
     ensures { λ r. ⌜ r ≡ chunkNumber kind (now (chunk .entry)) (governingOf k) rows levels ⌝ }
 {

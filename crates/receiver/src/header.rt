@@ -4,10 +4,10 @@ use super::ChannelId;
 use super::ServiceId;
 ghost use mathlib.Core.Path.{_≡_};
 ghost use mathlib.Core.Bool.{cond};
-ghost use Prim.Native.Nat.{_+_, _*_, _≤_, _<_};
-ghost use lib.ListN.{getD, length};
+ghost use Prim.Native.Nat.{_+_, _*_, _<_};
+ghost use lib.ListN.{getD};
 ghost use Rattle.receiver.specs.Header.{headerOf};
-ghost use Rattle.receiver.specs.Message.{dataStart, tagsOf, dataOf};
+ghost use Rattle.receiver.specs.Message.{dataStart, dataOf};
 ghost use Rattle.receiver.specs.Checks.{headerNumber, wrongLength};
 
 // The largest message, "above 65,280" is refused.
@@ -26,7 +26,7 @@ pub struct Header {
 }
 
 // The octet at a place, 0 past the end.
-pub fn octet(m: &[u8], at: usize) -> u8
+pub(crate) fn octet(m: &[u8], at: usize) -> u8
     ensures { λ r. ⌜ r ≡ getD (now (m .entry)) at 0 ⌝ }
 {
     if at < m.len() { m[at] } else { 0 }
@@ -60,7 +60,7 @@ fn start_of(configured: bool, routing: bool, words: u8) -> usize
 }
 
 // The header whole.
-pub fn read(m: &[u8]) -> Header
+pub(crate) fn read(m: &[u8]) -> Header
     ensures { λ r. ⌜ r ≡ headerOf (now (m .entry)) ⌝ }
 {
     let content = octet(m, 2);
@@ -84,7 +84,7 @@ pub fn read(m: &[u8]) -> Header
 }
 
 // Check 2: the length is below 8, above 65,280, or not Total Size.
-pub fn wrong_length(m: &[u8]) -> bool
+pub(crate) fn wrong_length(m: &[u8]) -> bool
     ensures { λ r. ⌜ r ≡ wrongLength (now (m .entry)) ⌝ }
 {
     let n = m.len();
@@ -92,8 +92,8 @@ pub fn wrong_length(m: &[u8]) -> bool
     (n < 8) | (LARGEST < n) | (n != size)
 }
 
-// Checks 2 to 5: the number that refuses the frame of the message, or 0.
-pub fn header_number(m: &[u8]) -> u8
+// Checks 2 to 5: the number that refuses the length or the header of the message, or 0.
+pub(crate) fn header_number(m: &[u8]) -> u8
     ensures { λ r. ⌜ r ≡ headerNumber (now (m .entry)) ⌝ }
 {
     let n = m.len();
@@ -119,7 +119,7 @@ pub fn header_number(m: &[u8]) -> u8
 }
 
 // The data section as a part of the message, from where the header says it starts; empty where that lies past the end.
-pub fn chunk_of(m: &[u8], start: usize) -> &[u8]
+pub(crate) fn chunk_of(m: &[u8], start: usize) -> &[u8]
     requires { ⌜ start ≡ dataStart (now m) ⌝ }
     ensures { λ r. ⌜ now r ≡ dataOf (now (m .entry)) ⌝ }
 {

@@ -30,7 +30,7 @@ fn service_fits(mode: u8, service: ServiceId) -> bool
 }
 
 // A refusal, with nothing that governs.
-pub fn none_found(number: u8) -> Found
+pub(crate) fn none_found(number: u8) -> Found
     ensures { λ r. ⌜ r .number ≡ number ⌝ }
 {
     let layout = no_layout();
@@ -59,7 +59,7 @@ fn routed_to(number: u8, mode: u8, match_bits: u8, layout: Layout, dimmer: Dimme
 }
 
 // Checks 6 to 14 of a message with Routing.
-pub fn route(mode: u8, service: ServiceId, match_bits: u8, tags: &[u8]) -> Found
+pub(crate) fn route(mode: u8, service: ServiceId, match_bits: u8, tags: &[u8]) -> Found
     ensures { λ r. ⌜ RoutedTo mode (service .0) «match_bits» (now (tags .entry)) r ⌝ }
 {
     let known = known_mode(mode);

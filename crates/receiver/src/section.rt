@@ -1,7 +1,7 @@
 // The data section of a message, handed back to the host as a part of its own slice.
 use super::header;
 ghost use mathlib.Core.Path.{_≡_};
-ghost use Prim.Native.Nat.{_+_, _*_};
+ghost use Prim.Native.Nat.{_+_};
 ghost use Rattle.receiver.specs.Section.{dataSection, sectionStart, sectionNumber};
 
 // Checks 2, 3 and 5, which leave no data section. The type plays no part.

@@ -5,7 +5,7 @@ use mathlib.Core.Bool.{Bool, cond, not, _&&_, _||_}
 use mathlib.Core.List.{List, [], _∷_, _++_}
 use lib.ListN.{length, getD}
 use lib.Dec.{ltb, leb, eqb}
-use Rattle.samples.specs.Roles.{ignored, firstOf, precisionOf, hintOf, has}
+use Rattle.samples.specs.Roles.{ignored, firstOf, hintOf, has}
 use Rattle.tags.specs.Choice.{refuse, first}
 use Rattle.tags.specs.Tag.{takesOctet, definedGroup, isVoid, isSpace, isPrecision, isHint, isColour, wavelength, isPrefixed, isPrefix, isSingle, knownTag, isSignal, slotFor}
 

@@ -11,10 +11,10 @@ use native.Mathlib.Omega.{arith}
 use borrow.Author.Tests.{ltb-true, leb-false, eqb-true, eq-eqb, not-false}
 use lib.ListN.{length, take, set, length-append}
 use lib.Seq.{length-take-le, take-suc-set}
-use lib.Dec.{ltb, leb, eqb, lit≤, leb·zero, leb·suc-suc, eqb·suc-zero}
+use lib.Dec.{ltb, leb, eqb, lit≤, leb·zero, leb·suc-suc}
 use Rattle.samples.specs.Roles.{has, placeOf, firstOf}
 use Rattle.tags.specs.Choice.{refuse, first}
-use Rattle.tags.specs.ChoiceLaws.{and-false, or-false-left, or-false-right, first-zero-left, first-zero-right, refuse-zero}
+use Rattle.tags.specs.ChoiceLaws.{and-false, or-false-left, or-false-right, first-zero-right, refuse-zero}
 use Rattle.tags.specs.Tag.{takesOctet, definedGroup, knownTag, isColour, wavelength}
 use Rattle.tags.specs.Dictionary.{Sample, Walk, misplaced, repeated, tagNumber, roleFor, sampleWith, read, step, walked, wordCount, incomplete, endNumber, dictionaryNumber, dictionarySample}
 

@@ -1,16 +1,16 @@
 -- Laws about the records that hold a dictionary and dimmer tags, for a layer that keeps them.
-use mathlib.Core.Path.{_≡_, refl, ap, _∙_}
+use mathlib.Core.Path.{_≡_, ap, _∙_}
 use Prim.Native.Nat.{ℕ, _<_, _≤_}
 use mathlib.Core.Bool.{true}
 use mathlib.Core.List.{List}
 use native.Mathlib.Omega.{arith}
 use lib.ListN.{length, getD, take, length-take}
 use borrow.Author.Tests.{le-leb}
-use Rattle.tags.specs.Dictionary.{noSample, dictionaryNumber, dictionarySample}
+use Rattle.tags.specs.Dictionary.{dictionaryNumber, dictionarySample}
 use Rattle.tags.specs.DictionaryLaws.{accepted-octets}
-use Rattle.tags.specs.Dimmer.{noMapping, allInRange, mappingInRange, dimmerMapping}
+use Rattle.tags.specs.Dimmer.{mappingInRange, dimmerMapping}
 use Rattle.tags.specs.DimmerLaws.{dimmer-mapping-in-range}
-use Rattle.tags.specs.Layout.{sampleOf, subsetsOf, mappingOf, soundLayout, soundDimmer, emptyLayout, emptyDimmer, layoutSound, dimmerSound, hasOctets}
+use Rattle.tags.specs.Layout.{sampleOf, mappingOf, soundLayout, soundDimmer, layoutSound, dimmerSound, hasOctets}
 use Rattle.tags.specs.declared.Layout.{Layout}
 use Rattle.tags.specs.declared.Dimmer.{Dimmer}
 
@@ -33,20 +33,3 @@ accepted-has-octets l mode tags e z = le-leb 1 (l .width) (wide (rw (← e) at (
   where
     wide : 1 ≤ length (take (l .width) (l .roles)) → 1 ≤ l .width
     wide h = omega (arith, rw length-take at h)
-
--- ---- those that say nothing
-
-pub empty-sample : sampleOf emptyLayout ≡ noSample
-empty-sample = refl
-
-pub empty-mapping : mappingOf emptyDimmer ≡ noMapping
-unfolding subsetsOf
-empty-mapping = refl
-
-pub empty-layout-sound : layoutSound emptyLayout ≡ true
-unfolding layoutSound
-empty-layout-sound = refl
-
-pub empty-dimmer-sound : dimmerSound emptyDimmer ≡ true
-unfolding dimmerSound subsetsOf allInRange
-empty-dimmer-sound = refl

@@ -1,10 +1,15 @@
+-- `receiver::chunk::chunk_number` meets its contract: each way out is the number of the first check that refuses.
 use borrow.Author.Needs.{needs}
-use borrow.Author.Tests.{eq-eqb, ne-eqb}
-use mathlib.Core.Path.{sym, _∙_}
+use borrow.Author.Tests.{eq-eqb, ne-eqb, not-false}
+use mathlib.Core.Path.{sym, ap, _∙_}
+use mathlib.Core.Bool.{_&&_, _||_}
+use Prim.Native.Nat.{ℕ, _-_}
+use lib.Dec.{eqb}
 use lib.ListN.{length-drop}
 use Rattle.tags.specs.ChoiceLaws.{first-none}
 use Rattle.receiver.specs.Record.{governingOf}
 use Rattle.receiver.specs.Checks.{chunkNumber}
+use Rattle.receiver.specs.ChunkLaws.{mode-of, drawing-state, isDimming-state}
 use Rattle.receiver.proofs.chunk.chunk_number.Statement.{statement}
 use Rattle.receiver.proofs.chunk.chunk_number.Tie as tie
 use Rattle.receiver.proofs.chunk.chunk_number.Reads as reads
@@ -51,7 +56,10 @@ draw-number-requires c κs = search needs
 
 returns-7 : tie.Need-returns-7
 unfolding chunkNumber governingOf
-returns-7 c = rw (ne-eqb (c .before .before .before .before .before .before .before .before .before .before .before .before .args .k .state) 0 (c .before .before .before .before .before .before .before .before .before .before .if1 .left), c .before .before .before .before .before .before .before .before .before .if2 .left, c .before .before .before .before .before .before .before .before .if3 .left, c .before .before .before .before .before .before .before .if4 .left, c .before .before .before .before .before .before .if5 .left, ← c .before .before .before .before .before .octet .ensures, c .before .before .before .if6 .left, c .before .before .if7 .taken) (rw length-drop (c .draw-number .ensures))
+returns-7 c =
+    let s = c .before .before .before .before .before .before .before .before .before .before .before .before in
+    let drawing = ap (λ (b : ℕ). eqb (s .args .kind) 1 && eqb b 1 || eqb (s .args .kind) 2 && eqb b 2) (mode-of (s .args .k)) ∙ c .before .before .if7 .taken in
+    rw (ne-eqb (c .before .before .before .before .before .before .before .before .before .before .before .before .args .k .state) 0 (c .before .before .before .before .before .before .before .before .before .before .if1 .left), c .before .before .before .before .before .before .before .before .before .if2 .left, c .before .before .before .before .before .before .before .before .if3 .left, c .before .before .before .before .before .before .before .if4 .left, c .before .before .before .before .before .before .if5 .left, ← c .before .before .before .before .before .octet .ensures, c .before .before .before .if6 .left, c .before .before .if7 .taken, drawing-state (s .args .kind) (s .args .k) drawing) (rw length-drop (c .draw-number .ensures))
 
 sub-dim-number : tie.Need-sub-dim-number
 sub-dim-number c = search needs
@@ -61,7 +69,11 @@ dim-number-requires c κs = search needs
 
 returns-8 : tie.Need-returns-8
 unfolding chunkNumber governingOf
-returns-8 c = rw (ne-eqb (c .before .before .before .before .before .before .before .before .before .before .before .before .args .k .state) 0 (c .before .before .before .before .before .before .before .before .before .before .if1 .left), c .before .before .before .before .before .before .before .before .before .if2 .left, c .before .before .before .before .before .before .before .before .if3 .left, c .before .before .before .before .before .before .before .if4 .left, c .before .before .before .before .before .before .if5 .left, ← c .before .before .before .before .before .octet .ensures, c .before .before .before .if6 .left, c .before .before .if7 .left) (rw length-drop (c .dim-number .ensures))
+returns-8 c =
+    let s = c .before .before .before .before .before .before .before .before .before .before .before .before in
+    let dims = rw (c .before .before .before .before .before .before .before .if4 .left, c .before .before .if7 .left) at (not-false (eqb (s .args .kind) 0 || (eqb (s .args .kind) 1 && eqb (s .args .k .state - 1) 1 || eqb (s .args .kind) 2 && eqb (s .args .k .state - 1) 2) || eqb (s .args .kind) 24 && (eqb (s .args .k .state - 1) 4 || eqb (s .args .k .state - 1) 6)) (c .before .before .before .before .before .before .before .before .if3 .left)) in
+    let dimming = ap (λ (b : ℕ). eqb (s .args .kind) 24 && (eqb b 4 || eqb b 6)) (mode-of (s .args .k)) ∙ dims in
+    rw (ne-eqb (c .before .before .before .before .before .before .before .before .before .before .before .before .args .k .state) 0 (c .before .before .before .before .before .before .before .before .before .before .if1 .left), c .before .before .before .before .before .before .before .before .before .if2 .left, c .before .before .before .before .before .before .before .before .if3 .left, c .before .before .before .before .before .before .before .if4 .left, c .before .before .before .before .before .before .if5 .left, ← c .before .before .before .before .before .octet .ensures, c .before .before .before .if6 .left, c .before .before .if7 .left, isDimming-state (s .args .kind) (s .args .k) dimming) (rw length-drop (c .dim-number .ensures))
 
 pub chunk-number-spec : {M : Type 1} → statement M
 chunk-number-spec =

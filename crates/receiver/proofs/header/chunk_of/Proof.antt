@@ -1,11 +1,10 @@
 -- `receiver::header::chunk_of` meets its contract: a part up to the end is what `drop` leaves, and past the end that is nothing.
 use borrow.Author.Needs.{needs}
-use mathlib.Core.Path.{sym, _∙_}
+use mathlib.Core.Path.{sym}
 use native.Mathlib.Nat.{le-refl, le-of-lt}
 use Prim.Native.Nat.{_-_}
 use lib.ListN.{length, drop, length-drop, drop-of-length-le}
-use lib.Seq.{take-length, take-all}
-use native.Mathlib.Omega.{arith}
+use lib.Seq.{take-all}
 use Rattle.receiver.specs.Message.{dataOf}
 use Rattle.receiver.proofs.header.chunk_of.Statement.{statement}
 use Rattle.receiver.proofs.header.chunk_of.Tie as tie

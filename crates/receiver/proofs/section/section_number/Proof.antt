@@ -1,6 +1,6 @@
 -- `receiver::section::section_number` meets its contract: at each return the flags on the way are the definition's own tests.
 use borrow.Author.Needs.{needs}
-use mathlib.Core.Path.{_≡_, sym, ap, _∙_}
+use mathlib.Core.Path.{sym, ap, _∙_}
 use lib.ListN.{length}
 use lib.Dec.{ltb}
 use Rattle.receiver.specs.Header.{headerOf}

@@ -1,9 +1,9 @@
 -- `tags::host::mewkoast_dictionary` meets its contract: the width of the layout is the number of roles.
 use borrow.Author.Needs.{needs}
-use mathlib.Core.Path.{_≡_, sym, ap, _∙_}
+use mathlib.Core.Path.{_≡_, ap, _∙_}
 use native.Mathlib.Omega.{arith}
 use lib.ListN.{length, take, length-take}
-use Rattle.tags.specs.Dictionary.{Sample, hostNumber, hostSample, hostCheck}
+use Rattle.tags.specs.Dictionary.{Sample, hostSample, hostCheck}
 use Rattle.tags.proofs.host.mewkoast_dictionary.Statement.{statement}
 use Rattle.tags.proofs.host.mewkoast_dictionary.Tie as tie
 use Rattle.tags.proofs.host.mewkoast_dictionary.Reads as reads

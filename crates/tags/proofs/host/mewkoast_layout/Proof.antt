@@ -1,14 +1,14 @@
 -- `tags::host::mewkoast_layout` meets its contract: the tests on the way are those of `hostNumber`.
 use borrow.Author.Needs.{needs}
 use borrow.Author.Tests.{eqb-true, not-false}
-use mathlib.Core.Path.{_≡_, refl, sym, ap, _∙_}
+use mathlib.Core.Path.{_≡_, refl}
 use mathlib.Core.Bool.{Bool, true, false, cond, _||_}
 use mathlib.Core.Logic.{⊎-elim}
 use mathlib.Core.List.{List}
 use Prim.Native.Nat.{ℕ, _%_}
 use lib.Dec.{eqb}
 use Rattle.tags.specs.ChoiceLaws.{or-cases}
-use Rattle.tags.specs.Dictionary.{Sample, noSample, walked, wordCount, dictionaryNumber, dictionarySample, hostNumber, hostSample}
+use Rattle.tags.specs.Dictionary.{noSample, walked, wordCount, dictionaryNumber, dictionarySample, hostNumber, hostSample}
 use Rattle.tags.proofs.host.mewkoast_layout.Statement.{statement}
 use Rattle.tags.proofs.host.mewkoast_layout.Tie as tie
 use Rattle.tags.proofs.host.mewkoast_layout.Reads as reads

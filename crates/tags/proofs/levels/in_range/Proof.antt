@@ -1,13 +1,12 @@
 -- `tags::levels::in_range` meets its contract. The loop's invariant: the flag with the subsets left is the test of all.
 use borrow.Author.Needs.{needs}
 use mathlib.Core.Path.{_≡_, refl, sym, ap, _∙_}
-use mathlib.Core.Bool.{Bool, true, false, _&&_, _||_}
-use Prim.Native.Nat.{ℕ, suc, _-_, _≤_}
+use mathlib.Core.Bool.{Bool, true, false, _&&_}
+use Prim.Native.Nat.{_-_, _≤_}
 use native.Mathlib.Numerals.{add-one}
 use native.Mathlib.Omega.{arith}
 use mir.Syntax.{w8}
 use mir.Val.{Fits}
-use lib.Dec.{eqb}
 use lib.ListN.{length, getD, drop, drop-of-length-le}
 use Rattle.tags.specs.Dimmer.{baseInRange, countInRange, allInRange, mappingInRange}
 use Rattle.tags.specs.Layout.{mappingOf}

@@ -1,7 +1,6 @@
 -- `tags::rows::points` meets its contract: a number divided by 0 is 0.
 use borrow.Author.Needs.{needs}
-use mathlib.Core.Path.{_≡_, sym, ap, _∙_}
-use Prim.Native.Nat.{ℕ, _/_}
+use mathlib.Core.Path.{sym}
 use native.Mathlib.Nat.{div-zero}
 use Rattle.tags.proofs.rows.points.Statement.{statement}
 use Rattle.tags.proofs.rows.points.Tie as tie
