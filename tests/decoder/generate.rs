@@ -4,6 +4,7 @@
 use crate::chunk::Lent;
 use crate::damage::{damage, size};
 use crate::data::data;
+use crate::lookback::Offered;
 use crate::message::{self, Channel, FRAME, LEVELS, VOID, WAVE};
 use crate::random::Random;
 use crate::receiver::{Receiver, LIMIT};
@@ -15,6 +16,16 @@ use crate::words::words;
 pub struct Offer {
     pub octets: Vec<u8>,
     pub lent: Lent,
+}
+
+impl Offer {
+    /// What the look-back rule is given of it.
+    pub fn offered(&self) -> Offered<'_> {
+        Offered {
+            octets: &self.octets,
+            lent: self.lent,
+        }
+    }
 }
 
 /// The readings that start is given, and the messages in order.

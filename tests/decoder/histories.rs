@@ -4,7 +4,7 @@
 use crate::bench::octets;
 use crate::chunk::Lent;
 use crate::end_to_end::end_to_end;
-use crate::generate::{stream, Stream};
+use crate::generate::{stream, Offer, Stream};
 use crate::listing::listing;
 use crate::lookback::{sums, verdicts, Offered};
 use crate::random::Random;
@@ -18,14 +18,7 @@ fn compare(stream: &Stream, counts: &mut [u64; 24]) {
     let (mut receiver, reply) = Receiver::start(lit, points, lit_points);
     counts[reply.number as usize] += u64::from(reply.number > 0);
     let start = receiver.readings();
-    let list: Vec<Offered> = stream
-        .offers
-        .iter()
-        .map(|offer| Offered {
-            octets: &offer.octets,
-            lent: offer.lent,
-        })
-        .collect();
+    let list: Vec<Offered> = stream.offers.iter().map(Offer::offered).collect();
     let verdicts = verdicts(start, &list);
     for (place, offered) in list.iter().enumerate() {
         let mut rows = vec![0; offered.lent.rows];

@@ -2,6 +2,7 @@
 //! `part` runs a fixed part of the cases, `whole` runs all of them.
 
 mod dictionaries;
+mod extent;
 mod random;
 mod tally;
 
@@ -11,14 +12,8 @@ use std::process::ExitCode;
 use tally::Tally;
 
 fn main() -> ExitCode {
-    let arguments: Vec<String> = std::env::args().skip(1).collect();
-    let whole = match arguments.as_slice() {
-        [word] if word == "part" => false,
-        [word] if word == "whole" => true,
-        _ => {
-            eprintln!("usage: dictionary part|whole");
-            return ExitCode::from(2);
-        }
+    let Some(whole) = extent::whole("dictionary") else {
+        return ExitCode::from(2);
     };
     let mut tally = Tally::default();
     replace_words(&mut tally, whole);

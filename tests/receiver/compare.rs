@@ -94,13 +94,8 @@ impl Both {
 
     /// Document 01, "Meters and the look-back rule".
     fn look_back(&self, start: [u64; 3], offers: &[Offer], name: &str, tally: &mut Tally) {
-        let list: Vec<Offered> = offers[..self.given.len()]
-            .iter()
-            .map(|offer| Offered {
-                octets: &offer.octets,
-                lent: offer.lent,
-            })
-            .collect();
+        let given = &offers[..self.given.len()];
+        let list: Vec<Offered> = given.iter().map(Offer::offered).collect();
         let verdicts = verdicts(start, &list);
         for (place, (number, readings)) in self.given.iter().enumerate() {
             let expected = (verdicts[place].number, sums(start, &verdicts[..=place]));

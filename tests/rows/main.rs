@@ -10,9 +10,12 @@ mod tally;
 
 #[path = "../calls.rs"]
 mod calls;
-// The dictionaries and their generator are those of the dictionary comparison.
+// The dictionaries, their generator and the word of the command are those of
+// the dictionary comparison.
 #[path = "../dictionary/dictionaries.rs"]
 mod dictionaries;
+#[path = "../dictionary/extent.rs"]
+mod extent;
 #[path = "../dictionary/random.rs"]
 mod random;
 
@@ -28,14 +31,8 @@ const HINTS: &[&str] = &[
 ];
 
 fn main() -> ExitCode {
-    let arguments: Vec<String> = std::env::args().skip(1).collect();
-    let whole = match arguments.as_slice() {
-        [word] if word == "part" => false,
-        [word] if word == "whole" => true,
-        _ => {
-            eprintln!("usage: rows part|whole");
-            return ExitCode::from(2);
-        }
+    let Some(whole) = extent::whole("rows") else {
+        return ExitCode::from(2);
     };
     let mut tally = Tally::default();
     let hints: Vec<Vec<u8>> = HINTS
