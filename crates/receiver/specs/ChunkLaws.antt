@@ -218,6 +218,11 @@ module _ (t : ℕ) (chunk : List ℕ) (k : Config) (rows₀ : List ℤ) (levels�
 
 -- ---- the meters
 
+-- the Duration that counts, asked the other way round
+pub lit-duration : (dark : Bool) (time : ℕ) → cond (not dark) time 0 ≡ cond dark 0 time
+lit-duration true time = refl
+lit-duration false time = refl
+
 -- readings within their limits
 pub within-limit : (l p q : ℕ) → l ≤ limit → p ≤ limit → q ≤ limit → overLimit (sums l p q) ≡ false
 within-limit l p q hl hp hq = rw (le-ltb limit l hl, le-ltb limit p hp, le-ltb limit q hq)

@@ -7,7 +7,6 @@ ghost use mathlib.Core.Path.{_≡_};
 ghost use mathlib.Core.Bool.{cond};
 ghost use Prim.Native.Nat.{_-_, _≤_, _<_, _^_};
 ghost use lib.ListN.{length};
-ghost use lib.Dec.{eqb};
 ghost use Rattle.receiver.specs.Record.{governingOf};
 ghost use Rattle.receiver.specs.Checks.{isDrawing, isDimming, body, duration, limit, sums, chunkNumber, meterNumber};
 ghost use Rattle.receiver.specs.Steps.{DrawnBy, nothingDrawn};
@@ -53,14 +52,13 @@ fn duration_of(chunk: &[u8]) -> u64
 }
 
 // The Duration that counts: none where no point is lit.
-fn lit_time(lit: u64, time: u64) -> u64
-    ensures { λ r. ⌜ r ≡ cond (eqb lit 0) 0 time ⌝ }
+fn lit_time(lit: bool, time: u64) -> u64
+    ensures { λ r. ⌜ r ≡ cond lit time 0 ⌝ }
 {
-    let dark = lit == 0;
-    if dark {
-        return 0;
+    if lit {
+        return time;
     }
-    time
+    0
 }
 
 // Check 23. The lit points are counted only where a meter is so near its limit that they decide.
@@ -89,7 +87,7 @@ pub(crate) fn meter_number(
         return 0;
     }
     let shown = tags::rows::lit(layout, octets) as u64;
-    let added = lit_time(shown, time);
+    let added = lit_time(shown != 0, time);
     let over = (LIMIT < lit + added) | (LIMIT < points + count) | (LIMIT < lit_points + shown);
     if over {
         return 23;
@@ -119,7 +117,8 @@ pub(crate) fn draw(h: Header, k: Config, chunk: &[u8], rows: &mut [i32], levels:
         let layout = k.layout;
         let points = tags::rows::points(layout, octets.len());
         let lit = tags::rows::draw(layout, octets, rows);
-        let time = lit_time(lit as u64, duration_of(chunk));
+        let shines = lit != 0;
+        let time = lit_time(shines, duration_of(chunk));
         return Drawn {
             time,
             points: points as u32,

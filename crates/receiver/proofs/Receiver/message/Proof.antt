@@ -66,79 +66,116 @@ whole c =
       dimmers = search (needs, length-mapped);
     }
 
-good-is : (c : tie.After-loop Inv-loop μ-loop) → c .before .loop .ok ≡ consistent (c .before .before .before .before .before .args .t1)
+-- the steps, each from the one behind it
+abbrev start-of : tie.After-read Inv-loop μ-loop → tie.Start Inv-loop μ-loop
+start-of c = c .before .before .before .before .before .before
+
+abbrev read-of : tie.After-config2 Inv-loop μ-loop → tie.After-read Inv-loop μ-loop
+read-of c = c .before .before .before .before .before .before
+
+abbrev held-of : tie.After-judge Inv-loop μ-loop → tie.After-config2 Inv-loop μ-loop
+held-of c = c .before .before .before
+
+abbrev judge-of : tie.After-write Inv-loop μ-loop → tie.After-judge Inv-loop μ-loop
+judge-of c = c .before .before .before .before
+
+abbrev write-of : tie.After-reply-of Inv-loop μ-loop → tie.After-write Inv-loop μ-loop
+write-of c = c .before .before .before .before .before .before .before .before .before .before
+
+good-is : (c : tie.After-read Inv-loop μ-loop) → c .before .before .loop .ok ≡ consistent (start-of c .args .t1)
 good-is c =
-    let at-end : c .before .loop .passed ≡ 64 = omega arith in
-    c .before .loop .inv .1 ∙ ap (goodUpTo (c .before .before .before .before .before .args .t1)) at-end ∙ goodUpTo-all (c .before .before .before .before .before .args .t1)
+    let l = c .before .before .loop in
+    let at-end : l .passed ≡ 64 = omega arith in
+    l .inv .1 ∙ ap (goodUpTo (start-of c .args .t1)) at-end ∙ goodUpTo-all (start-of c .args .t1)
 
 module _ (c : tie.After-read Inv-loop μ-loop) where
-  channel-is : c .read .result .channel .0 ≡ channelOf (c .before .before .before .before .before .before .args .octets .now)
-  channel-is = header-channel (c .read .result) (c .before .before .before .before .before .before .args .octets .now) (c .read .ensures)
+  channel-is : c .read .result .channel .0 ≡ channelOf (start-of c .args .octets .now)
+  channel-is = header-channel (c .read .result) (start-of c .args .octets .now) (c .read .ensures)
 
-  close-is : c .read .result .close ≡ closes (c .before .before .before .before .before .before .args .octets .now)
-  close-is = header-close (c .read .result) (c .before .before .before .before .before .before .args .octets .now) (c .read .ensures)
+  close-is : c .read .result .close ≡ closes (start-of c .args .octets .now)
+  close-is = header-close (c .read .result) (start-of c .args .octets .now) (c .read .ensures)
 
   below : c .read .result .channel .0 < 64
-  below = rw channel-is (channel-below (c .before .before .before .before .before .before .args .octets .now))
+  below = rw channel-is (channel-below (start-of c .args .octets .now))
 
-held-is : (c : tie.After-config2 Inv-loop μ-loop) → c .config2 .result ≡ configAt (c .before .before .before .before .before .before .before .before .before .before .before .before .args .t1) (channelOf (c .before .before .before .before .before .before .before .before .before .before .before .before .args .octets .now))
-held-is c = c .config2 .ensures ∙ ap (configAt (c .before .before .before .before .before .before .before .before .before .before .before .before .args .t1)) (channel-is (c .before .before .before .before .before .before))
+held-is : (c : tie.After-config2 Inv-loop μ-loop)
+    → c .config2 .result ≡ configAt (start-of (read-of c) .args .t1) (channelOf (start-of (read-of c) .args .octets .now))
+held-is c = c .config2 .ensures ∙ ap (configAt (start-of (read-of c) .args .t1)) (channel-is (read-of c))
 
 judge-requires : tie.Need-judge-requires Inv-loop μ-loop
 judge-requires c κs =
-    (c .before .before .before .before .before .before .before .before .read .ensures, λ good. rw (c .readings-of .ensures) (consistent-limit (c .before .before .before .before .before .before .before .before .before .before .before .before .before .before .args .t1) (sym (good-is (c .before .before .before .before .before .before .before .before .before)) ∙ good)))
+    let h = read-of (c .before .before) in
+    (h .read .ensures, λ good. rw (c .readings-of .ensures) (consistent-limit (start-of h .args .t1) (sym (good-is h) ∙ good)))
 
-judged : (c : tie.After-judge Inv-loop μ-loop)
-    → Judgement (c .before .before .before .before .before .before .before .before .before .before .before .before .before .before .before .args .t1) (c .before .before .before .before .before .before .before .before .before .before .before .before .before .before .before .args .octets .now) (length (c .before .before .before .before .before .before .before .before .before .before .before .before .before .before .before .args .rows .now)) (length (c .before .before .before .before .before .before .before .before .before .before .before .before .before .before .before .args .levels .now)) (c .judge .result)
-judged c =
-    c .judge .ensures (c .before .before .before .before .before .before .before .before .before .before .before .before .before .before .before .args .t1)
-    (record { consistency = good-is (c .before .before .before .before .before .before .before .before .before .before); states = refl; channel = held-is (c .before .before .before); meters = c .before .readings-of .ensures })
+module _ (c : tie.After-judge Inv-loop μ-loop) where
+  entry : tie.Start Inv-loop μ-loop
+  entry = start-of (read-of (held-of c))
+
+  judged : Judgement (entry .args .t1) (entry .args .octets .now) (length (entry .args .rows .now)) (length (entry .args .levels .now)) (c .judge .result)
+  unfolding entry
+  judged =
+      c .judge .ensures (entry .args .t1)
+      (record {
+        consistency = good-is (read-of (held-of c));
+        states = refl;
+        channel = held-is (held-of c);
+        meters = c .before .readings-of .ensures;
+      })
 
 -- ---- the needs
 
 write-requires : tie.Need-write-requires Inv-loop μ-loop
+unfolding entry
 write-requires c κs =
-    let s = c .before .before .before .before .before .before .before .before .before .before .before .before .before .before .before .before .before .before in
-    (c .before .before .before .before .before .before .before .before .before .before .before .before .read .ensures, judged-drawable (s .args .t1) (s .args .octets .now) (length (s .args .rows .now)) (length (s .args .levels .now)) (c .before .before .before .judge .result) (judged (c .before .before .before)))
+    let j = c .before .before .before in
+    let s = entry j in
+    (read-of (held-of j) .read .ensures, judged-drawable (s .args .t1) (s .args .octets .now) (length (s .args .rows .now)) (length (s .args .levels .now)) (j .judge .result) (judged j))
 
 -- the meters fit their fields, and so do the risen ones
 meters-fit : (s : tie.Start Inv-loop μ-loop) → (s .args .t1 .lit < 2 ^ 64) × (s .args .t1 .points < 2 ^ 64) × (s .args .t1 .«lit_points» < 2 ^ 64)
 meters-fit s = (search needs, search needs, search needs)
 
 fit : (c : tie.After-write Inv-loop μ-loop)
-    → (c .before .before .before .before .before .before .before .before .before .before .before .before .before .before .before .before .before .before .before .args .t1 .lit + c .write .result .time < 2 ^ 64)
-    × (c .before .before .before .before .before .before .before .before .before .before .before .before .before .before .before .before .before .before .before .args .t1 .points + c .write .result .points < 2 ^ 64)
-    × (c .before .before .before .before .before .before .before .before .before .before .before .before .before .before .before .before .before .before .before .args .t1 .«lit_points» + c .write .result .lit < 2 ^ 64)
+    → (entry (judge-of c) .args .t1 .lit + c .write .result .time < 2 ^ 64)
+    × (entry (judge-of c) .args .t1 .points + c .write .result .points < 2 ^ 64)
+    × (entry (judge-of c) .args .t1 .«lit_points» + c .write .result .lit < 2 ^ 64)
+unfolding entry
 fit c =
-    let s = c .before .before .before .before .before .before .before .before .before .before .before .before .before .before .before .before .before .before .before in
-    risen-fits (s .args .t1) (whole s) (s .args .octets .now) (s .args .rows .now) (s .args .levels .now) (c .before .before .before .before .judge .result) (judged (c .before .before .before .before)) (c .write .result) _ _ (c .write .ensures)
+    let j = judge-of c in
+    let s = entry j in
+    risen-fits (s .args .t1) (whole s) (s .args .octets .now) (s .args .rows .now) (s .args .levels .now) (j .judge .result) (judged j) (c .write .result) _ _ (c .write .ensures)
     (meters-fit s)
 
 add-receiver : tie.Need-add-receiver Inv-loop μ-loop
+unfolding entry
 add-receiver c = record { fits = fit (c .before .before .before .before .before .before .before) .0 }
 
 add-receiver-2 : tie.Need-add-receiver-2 Inv-loop μ-loop
+unfolding entry
 add-receiver-2 c = record { fits = fit (c .before .before .before .before .before .before .before .before) .1 }
 
 add-receiver-3 : tie.Need-add-receiver-3 Inv-loop μ-loop
+unfolding entry
 add-receiver-3 c = record { fits = fit (c .before .before .before .before .before .before .before .before .before) .2 }
 
 returns : tie.Need-returns Inv-loop μ-loop
+unfolding entry
 returns c =
-    let s = c .before .before .before .before .before .before .before .before .before .before .before .before .before .before .before .before .before .before .before .before .before .before .before .before .before .before .before .before .before in
+    let w = write-of c .write in
+    let j = judge-of (write-of c) in
+    let h = read-of (held-of j) in
+    let s = entry j in
     let self = s .args .t1 in
     let m = s .args .octets .now in
-    let h = c .before .before .before .before .before .before .before .before .before .before .before .before .before .before .before .before .before .before .before .before .before .before .before in
-    let f = c .before .before .before .before .before .before .before .before .before .before .before .before .before .before .judge .result in
-    let w = c .before .before .before .before .before .before .before .before .before .before .write in
+    let f = j .judge .result in
     let rows₁ = w .last .1 .1 .1 .1 .0 in
     let levels₁ = w .last .1 .1 .1 .1 .1 .0 in
-    let k = c .before .before .before .before .before .before .kept-config in
+    let kept = c .before .before .before .before .before .before .kept-config in
     subst₂
     (λ (at : Receiver) (reply : Reply). Answered (messageNumber self m (length (s .args .rows .now)) (length (s .args .levels .now))) self m (s .args .rows .now) (s .args .levels .now) (record { receiver = at; reply = reply }) rows₁ levels₁)
-    (λ i. settled self (plus (sumsOf self) (sums (w .result .time) (w .result .points) (w .result .lit))) (sym (channel-is h) i) ((sym (k .ensures ∙ (λ j. keptConfig (f .number) (close-is h j) (held-is (c .before .before .before .before .before .before .before .before .before .before .before .before .before .before .before .before .before) j) (f .config)))) i))
+    (λ i. settled self (plus (sumsOf self) (sums (w .result .time) (w .result .points) (w .result .lit))) (sym (channel-is h) i) ((sym (kept .ensures ∙ (λ k. keptConfig (f .number) (close-is h k) (held-is (held-of j) k) (f .config)))) i))
     (sym (c .reply-of .ensures ∙ (λ i. cond (eqb (f .number) 0) (acceptance (h .read .ensures i) (f .config) (w .result)) (refusal (f .number)))))
-    (answered self (whole s) m (s .args .rows .now) (s .args .levels .now) f (judged (c .before .before .before .before .before .before .before .before .before .before .before .before .before .before)) (w .result) rows₁ levels₁ (w .ensures))
+    (answered self (whole s) m (s .args .rows .now) (s .args .levels .now) f (judged j) (w .result) rows₁ levels₁ (w .ensures))
 
 pub message-spec : {M : Type 1} → statement M
 message-spec =

@@ -8,7 +8,7 @@ use lib.Dec.{eqb}
 use Rattle.tags.specs.Rows.{pointsIn, roomFor}
 use Rattle.tags.specs.Layout.{sampleOf, mappingOf}
 use Rattle.receiver.specs.Checks.{body}
-use Rattle.receiver.specs.ChunkLaws.{points-few, lit-few, levels-few, drawn-rows, drawn-levels, drawn-none}
+use Rattle.receiver.specs.ChunkLaws.{lit-duration, points-few, lit-few, levels-few, drawn-rows, drawn-levels, drawn-none}
 use Rattle.receiver.proofs.draw.draw.Statement.{statement}
 use Rattle.receiver.proofs.draw.draw.Tie as tie
 use Rattle.receiver.proofs.draw.draw.Reads as reads
@@ -46,7 +46,7 @@ returns c =
     (s .pre .1)
     (counted (c .before .before .before .before .before))
     (rw section at (c .before .before .before .draw .ensures .1))
-    (c .lit-time .ensures ∙ ap (λ (t : ℕ). cond (eqb (c .before .before .before .draw .result) 0) 0 t) (c .before .duration-of .ensures .0))
+    (c .lit-time .ensures ∙ lit-duration (eqb (c .before .before .before .draw .result) 0) (c .before .duration-of .result) ∙ ap (λ (t : ℕ). cond (eqb (c .before .before .before .draw .result) 0) 0 t) (c .before .duration-of .ensures .0))
     (rw section at (c .before .before .before .draw .ensures .0))
 
 cast-t26 : tie.Need-cast-t26

@@ -12,7 +12,7 @@ use Rattle.tags.specs.Choice.{refuse}
 use Rattle.tags.specs.Layout.{sampleOf}
 use Rattle.receiver.specs.Record.{governingOf}
 use Rattle.receiver.specs.Checks.{sums, overLimit, isDrawing, body, meterNumber}
-use Rattle.receiver.specs.ChunkLaws.{litIn-le, points-few, within-limit, meter-idle, meter-drawing, meter-far}
+use Rattle.receiver.specs.ChunkLaws.{lit-duration, litIn-le, points-few, within-limit, meter-idle, meter-drawing, meter-far}
 use Rattle.receiver.proofs.draw.meter_number.Statement.{statement}
 use Rattle.receiver.proofs.draw.meter_number.Tie as tie
 use Rattle.receiver.proofs.draw.meter_number.Reads as reads
@@ -76,7 +76,7 @@ returns-2 c =
 add-over : tie.Need-add-over
 add-over c =
     let time = c .before .before .before .duration-of .result in
-    let less : c .lit-time .result ≤ time = rw (c .lit-time .ensures) (cond-le (eqb (c .before .lit .result) 0) time) in
+    let less : c .lit-time .result ≤ time = rw (c .lit-time .ensures, lit-duration (eqb (c .before .lit .result) 0) time) (cond-le (eqb (c .before .lit .result) 0) time) in
     omega (arith, c .before .before .before .duration-of .ensures .1)
 
 add-over-2 : tie.Need-add-over-2
@@ -99,7 +99,7 @@ near-number c =
     (drawing (c .before .before .before .before .before .before .before))
     (counted (c .before .before .before .before))
     (shown-are (c .before))
-    (c .lit-time .ensures ∙ ap (λ (t : ℕ). cond (eqb (c .before .lit .result) 0) 0 t) (c .before .before .before .duration-of .ensures .0))
+    (c .lit-time .ensures ∙ lit-duration (eqb (c .before .lit .result) 0) (c .before .before .before .duration-of .result) ∙ ap (λ (t : ℕ). cond (eqb (c .before .lit .result) 0) 0 t) (c .before .before .before .duration-of .ensures .0))
 
 returns-3 : tie.Need-returns-3
 returns-3 c = sym (near-number (c .before) ∙ ap (λ (b : Bool). refuse b 23) (c .if3 .taken))

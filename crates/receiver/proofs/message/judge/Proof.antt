@@ -36,6 +36,14 @@ framed c = sym (c .before .header-number .ensures) ∙ eqb-true _ 0 (not-false _
 kind-is : (s : tie.Start) → s .args .h .chunk ≡ typeOf (s .args .m .now)
 kind-is s = header-type (s .args .h) (s .args .m .now) (s .pre .0)
 
+-- ---- the steps, each from the one behind it
+
+abbrev start-of : tie.After-governing → tie.Start
+start-of c = c .before .before .before .before .before
+
+abbrev governed-by : tie.After-chunk-number → tie.After-governing
+governed-by c = c .before .before .before .before .before
+
 -- ---- the needs
 
 returns : tie.Need-returns
@@ -59,57 +67,65 @@ governing-requires c κs = (c .before .before .before .before .pre .0, framed c)
 returns-3 : tie.Need-returns-3
 unfolding Shows
 returns-3 c r shown =
-    let s = c .before .before .before .before .before .before .before in
-    judged-ungoverned r (s .args .m .now) (s .args .rows) (s .args .levels) (good (c .before .before .before .before .before) r shown) (framed (c .before .before .before))
-    (c .before .before .governing .result)
-    (c .before .before .governing .ensures r (shown .states) (shown .channel))
+    let g = c .before .before in
+    let s = start-of g in
+    judged-ungoverned r (s .args .m .now) (s .args .rows) (s .args .levels) (good (g .before .before .before) r shown) (framed (g .before))
+    (g .governing .result)
+    (g .governing .ensures r (shown .states) (shown .channel))
     (c .if3 .taken)
 
 chunk-of-requires : tie.Need-chunk-of-requires
-chunk-of-requires c κs = let s = c .before .before .before .before .before .before .before .before in header-start (s .args .h) (s .args .m .now) (s .pre .0)
+chunk-of-requires c κs = let s = start-of (c .before .before .before) in header-start (s .args .h) (s .args .m .now) (s .pre .0)
 
 chunk-number-requires : tie.Need-chunk-number-requires
-chunk-number-requires c κs = rw (c .chunk-of .ensures) (data-length (c .before .before .before .before .before .before .before .before .before .args .m .now) (framed (c .before .before .before .before .before)))
+chunk-number-requires c κs =
+    let g = c .before .before .before .before in
+    rw (c .chunk-of .ensures) (data-length (start-of g .args .m .now) (framed (g .before)))
 
 numbered : (c : tie.After-chunk-number)
-    → c .chunk-number .result
-    ≡ chunkNumber (typeOf (c .before .before .before .before .before .before .before .before .before .before .args .m .now)) (dataOf (c .before .before .before .before .before .before .before .before .before .before .args .m .now)) (governingOf (c .before .before .before .before .before .governing .result .config)) (c .before .before .before .before .before .before .before .before .before .before .args .rows) (c .before .before .before .before .before .before .before .before .before .before .args .levels)
+    → let g = governed-by c in
+    let s = start-of g in
+    c .chunk-number .result
+    ≡ chunkNumber (typeOf (s .args .m .now)) (dataOf (s .args .m .now)) (governingOf (g .governing .result .config)) (s .args .rows) (s .args .levels)
 numbered c =
+    let g = governed-by c in
+    let s = start-of g in
     c .chunk-number .ensures
-    ∙ ap₂ (λ (t : ℕ) (d : List ℕ). chunkNumber t d (governingOf (c .before .before .before .before .before .governing .result .config)) (c .before .before .before .before .before .before .before .before .before .before .args .rows) (c .before .before .before .before .before .before .before .before .before .before .args .levels)) (kind-is (c .before .before .before .before .before .before .before .before .before .before)) (c .before .chunk-of .ensures)
+    ∙ ap₂ (λ (t : ℕ) (d : List ℕ). chunkNumber t d (governingOf (g .governing .result .config)) (s .args .rows) (s .args .levels)) (kind-is s) (c .before .chunk-of .ensures)
 
 returns-4 : tie.Need-returns-4
 unfolding Shows
 returns-4 c r shown =
-    let s = c .before .before .before .before .before .before .before .before .before .before .before in
-    let g = c .before .before .before .before .before .before .governing in
-    judged-chunk r (s .args .m .now) (s .args .rows) (s .args .levels) (good (c .before .before .before .before .before .before .before .before .before) r shown) (framed (c .before .before .before .before .before .before .before))
-    (g .result)
-    (g .ensures r (shown .states) (shown .channel))
+    let g = governed-by (c .before) in
+    let s = start-of g in
+    judged-chunk r (s .args .m .now) (s .args .rows) (s .args .levels) (good (g .before .before .before) r shown) (framed (g .before))
+    (g .governing .result)
+    (g .governing .ensures r (shown .states) (shown .channel))
     (eqb-true _ 0 (not-false _ (c .before .before .before .before .if3 .left)))
-    (record { number = c .before .chunk-number .result; config = g .result .config })
+    (record { number = c .before .chunk-number .result; config = g .governing .result .config })
     (c .if4 .taken)
     (numbered (c .before))
 
 meter-number-requires : tie.Need-meter-number-requires
 meter-number-requires c κs =
-    let s = c .before .before .before .before .before .before .before .before .before .before .before in
-    let meters = s .args .meters in
-    (chunk-number-requires (c .before .before) κs, within-each (sums (meters .lit) (meters .points) (meters .«lit_points»)) (s .pre .1 (not-false _ (c .before .before .before .before .before .before .before .before .before .if1 .left))))
+    let g = governed-by (c .before) in
+    let meters = start-of g .args .meters in
+    (chunk-number-requires (c .before .before) κs, within-each (sums (meters .lit) (meters .points) (meters .«lit_points»)) (start-of g .pre .1 (not-false _ (g .before .before .before .if1 .left))))
 
 returns-5 : tie.Need-returns-5
 unfolding Shows
 returns-5 c r shown =
-    let s = c .before .before .before .before .before .before .before .before .before .before .before .before in
-    let g = c .before .before .before .before .before .before .before .governing in
-    judged-meters r (s .args .m .now) (s .args .rows) (s .args .levels) (good (c .before .before .before .before .before .before .before .before .before .before) r shown) (framed (c .before .before .before .before .before .before .before .before))
-    (g .result)
-    (g .ensures r (shown .states) (shown .channel))
+    let n = c .before .before in
+    let g = governed-by n in
+    let s = start-of g in
+    judged-meters r (s .args .m .now) (s .args .rows) (s .args .levels) (good (g .before .before .before) r shown) (framed (g .before))
+    (g .governing .result)
+    (g .governing .ensures r (shown .states) (shown .channel))
     (eqb-true _ 0 (not-false _ (c .before .before .before .before .before .if3 .left)))
     (c .meter-number .result)
-    (sym (numbered (c .before .before)) ∙ eqb-true _ 0 (not-false _ (c .before .if4 .left)))
+    (sym (numbered n) ∙ eqb-true _ 0 (not-false _ (c .before .if4 .left)))
     (c .meter-number .ensures
-    ∙ (λ i. meterNumber (kind-is s i) (c .before .before .before .chunk-of .ensures i) (governingOf (g .result .config)) (ap (λ (q : Readings). sums (q .lit) (q .points) (q .«lit_points»)) (shown .meters) i)))
+    ∙ (λ i. meterNumber (kind-is s i) (n .before .chunk-of .ensures i) (governingOf (g .governing .result .config)) (ap (λ (q : Readings). sums (q .lit) (q .points) (q .«lit_points»)) (shown .meters) i)))
 
 pub judge-spec : {M : Type 1} → statement M
 judge-spec =
