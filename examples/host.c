@@ -80,7 +80,7 @@ static void print_reply(const mewkoast_reply *reply)
 {
     printf("channel %u type %u number %u time %" PRIu32 " space %u points %" PRIu32
            " lit %" PRIu32 " levels %" PRIu32 "\n",
-           reply->channel, reply->chunk, reply->number, reply->timestamp,
+           reply->channel, reply->chunk_type, reply->number, reply->timestamp,
            reply->space, reply->points, reply->lit_points, reply->levels);
 }
 
@@ -105,7 +105,7 @@ static void run(void)
     if (cut > 0)
         printf("cut %" PRIu64 "\n", cut);
     meters = mewkoast_readings(state.receiver);
-    printf("meters %" PRIu64 " %" PRIu64 " %" PRIu64 "\n", meters.lit,
+    printf("meters %" PRIu64 " %" PRIu64 " %" PRIu64 "\n", meters.lit_time,
            meters.points, meters.lit_points);
 }
 

@@ -6,9 +6,12 @@
  * Checks and limits are those of document 01; messages and tags are those of
  * IDN-Stream, Revision 001.
  *
- * Link target/staticlib/libreceiver.a (`rt staticlib receiver`) for section 5
- * and libtags.a (`rt staticlib tags`) for sections 2 to 4; each holds what it
- * needs of the other.
+ * For x86-64 Linux. Link target/staticlib/libreceiver.a (`rt staticlib
+ * receiver`) for section 5 and libtags.a (`rt staticlib tags`) for sections 2
+ * to 4. Each is one object with all the code that its own calls run and with
+ * no other call: a host that needs section 5 alone links libreceiver.a alone,
+ * one that needs both links both. Of the C library they take memcpy and memset
+ * and nothing else.
  *
  * For every function: the octets and tags lent need not be aligned and need
  * not have been checked; they are not changed, and no pointer is kept. The
@@ -20,6 +23,8 @@
 
 #include <stddef.h>
 #include <stdint.h>
+
+#define MEWKOAST_VERSION "0.4.0"
 
 #ifdef __cplusplus
 extern "C" {
@@ -42,7 +47,7 @@ extern "C" {
  *   14     dimmer tags mix, overlap, repeat 42, or are the 33rd 43
  *
  * At each tag 8 to 11 (or 13, 14) are tried in turn, then the next tag
- * follows. A prefix followed wrongly is 10 at the tag behind it, after 8 and
+ * follows. A prefix followed wrongly is 10 at the tag after it, after 8 and
  * 9 there. At the end an unfinished prefix is 10; 12 comes last.
  */
 
@@ -76,9 +81,9 @@ uint32_t mewkoast_dictionary(uint32_t mode, const uint8_t *tags, size_t length);
  *            s + 33    the precision octet of the signal in slot s;
  *                65    the hint of format 0 (4100);
  *                66    the hint of format 1 (4101).
- *             Those behind the width say nothing.
+ *             Those after the width are 0.
  *   waves     the wavelength of colour k in nm, 0 where a prefix gives it;
- *             those behind the colours say nothing.
+ *             those after the colours are 0.
  *   space     the space modifier word 11pp, 0 if there is none.
  *   width     the octets of a sample, 3 to 32.
  *   colours   the colours, 1 to 8.
@@ -91,7 +96,7 @@ typedef struct {
     uint8_t colours;
 } mewkoast_sample_layout;
 
-/* `number` is 0, or the refusal 6, 5 or 8 to 12; then the layout says nothing. */
+/* `number` is 0, or the refusal 6, 5 or 8 to 12; then the layout is all 0. */
 typedef struct {
     uint8_t number;
     mewkoast_sample_layout layout;
@@ -118,14 +123,18 @@ mewkoast_checked_dictionary mewkoast_layout(uint32_t mode, const uint8_t *tags,
  * their wavelengths in 1/64 nm. An absent signal is 0, an absent shutter 1.
  * Colours and intensity are already divided by the scales of the hint.
  *
- * The layout is one that mewkoast_layout gave with the number 0. The host
- * lends: `octets` points to `n` octets to be read, `rows` to `rows_length`
- * numbers (not rows) to be written, aligned as int32_t is.
+ * The host lends: `octets` points to `n` octets to be read, `rows` to
+ * `rows_length` numbers (not rows) to be written, aligned as int32_t is.
  *
- * The points are the whole samples, n / width; octets behind the last whole
+ * The points are the whole samples, n / width; octets after the last whole
  * sample are not used. Where rows_length is below points * 24 nothing is
  * written and 0 is returned. Otherwise the first points * 24 numbers are
  * written and all others are unchanged.
+ *
+ * Any layout is answered, also one that the host made itself: a width above
+ * 32 is read as 32 and colours above 8 as 8; with width 0 there are no points;
+ * of two octets with one role the first counts, and 66 before 65; a role that
+ * is not listed, or one of slot 5, is ignored.
  */
 size_t mewkoast_draw(mewkoast_sample_layout layout, const uint8_t *octets,
                      size_t n, int32_t *rows, size_t rows_length);
@@ -139,8 +148,8 @@ size_t mewkoast_draw(mewkoast_sample_layout layout, const uint8_t *octets,
  * What accepted dimmer tags say.
  *
  *   bases, counts   the tags 43 in order; a base is 1 to 512, or FFFF for
- *                   dropped octets, a count 1 to 255. Those behind `count`
- *                   say nothing.
+ *                   dropped octets, a count 1 to 255. Those after `count`
+ *                   are 0.
  *   base            the base of the tag 42, 0 if there is none.
  *   count           how many tags 43 there are, 0 to 32.
  */
@@ -151,7 +160,7 @@ typedef struct {
     uint8_t count;
 } mewkoast_dimmer_mapping;
 
-/* `number` is 0, or the refusal 13 or 14; then the mapping says nothing. */
+/* `number` is 0, or the refusal 13 or 14; then the mapping is all 0. */
 typedef struct {
     uint8_t number;
     mewkoast_dimmer_mapping dimmer;
@@ -175,9 +184,15 @@ mewkoast_checked_mapping mewkoast_mapping(const uint8_t *tags, size_t length);
  * excepted; no 42 is base 1). Where that fails (check 21), or fewer than
  * 1,024 places are lent (check 22), nothing is written and 0 is returned.
  *
- * The mapping is one that mewkoast_mapping gave with the number 0. Every mode
- * but 6 is taken for 4. The host lends: `octets` points to `n` levels to be
- * read, `levels` to `levels_length` places to be written.
+ * Any mapping is answered, also one that the host made itself: a count above
+ * 32 is read as 32; where the base is neither 0, 1 to 512 nor FFFF, or a tag
+ * 43 is out of range (base 1 to 512 or FFFF, count 1 to 255, base + count at
+ * most 513 unless the base is FFFF), nothing is written and 0 is returned; a
+ * base beside tags 43 is not used; of two ranges that overlap the later is
+ * written last. Every mode but 6 is taken for 4.
+ *
+ * The host lends: `octets` points to `n` levels to be read, `levels` to
+ * `levels_length` places to be written.
  */
 size_t mewkoast_levels(mewkoast_dimmer_mapping dimmer, uint8_t mode,
                        const uint8_t *octets, size_t n, uint8_t *levels,
@@ -198,7 +213,7 @@ typedef struct {
     uint8_t matches[64];
     mewkoast_sample_layout layouts[64];
     mewkoast_dimmer_mapping dimmers[64];
-    uint64_t lit;
+    uint64_t lit_time;
     uint64_t points;
     uint64_t lit_points;
 } mewkoast_receiver;
@@ -209,8 +224,8 @@ typedef struct {
  *    1  the record given breaks the consistency rule (a meter above its
  *       limit; an unknown state; in a channel open in mode 1 or 2 counts
  *       beyond their arrays or an empty sample; in one open in mode 4 or 6 a
- *       count beyond its arrays, or a base or count out of range); it is
- *       handed back
+ *       count beyond its arrays, a base or count out of range, or a range
+ *       with base + count above 513); it is handed back
  *    2  the length is below 8, above 65,280, or not Total Size
  *    3  the top bit of octet 2 is 0
  *    4  the type is not 0x00, 0x01, 0x02 or 0x18
@@ -241,7 +256,7 @@ typedef struct {
 typedef struct {
     uint8_t number;
     uint8_t channel;
-    uint8_t chunk;
+    uint8_t chunk_type;
     uint32_t timestamp;
     uint16_t space;
     uint32_t points;
@@ -256,7 +271,7 @@ typedef struct {
 
 /* Lit microseconds, points, lit points. */
 typedef struct {
-    uint64_t lit;
+    uint64_t lit_time;
     uint64_t points;
     uint64_t lit_points;
 } mewkoast_meters;
@@ -271,7 +286,7 @@ typedef struct {
  * A receiver newly started with three readings, every channel closed. Where a
  * reading is above the limit the reply has number 23 and all three are 0.
  */
-mewkoast_outcome mewkoast_start(uint64_t lit, uint64_t points,
+mewkoast_outcome mewkoast_start(uint64_t lit_time, uint64_t points,
                                 uint64_t lit_points);
 
 /*

@@ -16,6 +16,17 @@ pub struct SampleLayout {
     pub colours: u8,
 }
 
+impl SampleLayout {
+    /// What a refusal leaves.
+    pub const NONE: SampleLayout = SampleLayout {
+        roles: [0; 32],
+        waves: [0; 8],
+        space: 0,
+        width: 0,
+        colours: 0,
+    };
+}
+
 /// mewkoast_checked_dictionary.
 #[repr(C)]
 #[derive(Clone, Copy)]
@@ -34,6 +45,16 @@ pub struct DimmerMapping {
     pub count: u8,
 }
 
+impl DimmerMapping {
+    /// What a refusal leaves.
+    pub const NONE: DimmerMapping = DimmerMapping {
+        bases: [0; 32],
+        counts: [0; 32],
+        base: 0,
+        count: 0,
+    };
+}
+
 /// mewkoast_checked_mapping.
 #[repr(C)]
 #[derive(Clone, Copy)]
@@ -50,7 +71,7 @@ pub struct Receiver {
     pub matches: [u8; 64],
     pub layouts: [SampleLayout; 64],
     pub dimmers: [DimmerMapping; 64],
-    pub lit: u64,
+    pub lit_time: u64,
     pub points: u64,
     pub lit_points: u64,
 }
@@ -59,14 +80,14 @@ pub struct Receiver {
 #[repr(C)]
 #[derive(Clone, Copy)]
 pub struct Reply {
-    number: u8,
-    channel: u8,
-    chunk: u8,
-    timestamp: u32,
-    space: u16,
-    points: u32,
-    lit_points: u32,
-    levels: u32,
+    pub number: u8,
+    pub channel: u8,
+    pub chunk_type: u8,
+    pub timestamp: u32,
+    pub space: u16,
+    pub points: u32,
+    pub lit_points: u32,
+    pub levels: u32,
 }
 
 /// mewkoast_outcome.
@@ -77,11 +98,12 @@ pub struct Outcome {
     pub reply: Reply,
 }
 
+/// mewkoast_meters.
 #[repr(C)]
-struct Readings {
-    lit: u64,
-    points: u64,
-    lit_points: u64,
+pub struct Readings {
+    pub lit_time: u64,
+    pub points: u64,
+    pub lit_points: u64,
 }
 
 extern "C" {
@@ -102,7 +124,7 @@ extern "C" {
         levels: *mut u8,
         levels_length: usize,
     ) -> usize;
-    fn mewkoast_start(lit: u64, points: u64, lit_points: u64) -> Outcome;
+    fn mewkoast_start(lit_time: u64, points: u64, lit_points: u64) -> Outcome;
     fn mewkoast_message(
         receiver: Receiver,
         octets: *const u8,
@@ -121,7 +143,7 @@ impl Reply {
         own::Reply {
             number: u32::from(self.number),
             channel: self.channel,
-            kind: self.chunk,
+            kind: self.chunk_type,
             timestamp: self.timestamp,
             space: self.space,
             points: self.points,
@@ -167,8 +189,8 @@ pub fn levels(dimmer: DimmerMapping, mode: u8, octets: &[u8], levels: &mut [u8])
     }
 }
 
-pub fn start([lit, points, lit_points]: [u64; 3]) -> Outcome {
-    unsafe { mewkoast_start(lit, points, lit_points) }
+pub fn start([lit_time, points, lit_points]: [u64; 3]) -> Outcome {
+    unsafe { mewkoast_start(lit_time, points, lit_points) }
 }
 
 /// A host that keeps the outcome in one place has two copies of it made around
@@ -192,5 +214,5 @@ pub fn message(receiver: &Receiver, octets: &[u8], rows: &mut [i32], levels: &mu
 
 pub fn readings(receiver: &Receiver) -> [u64; 3] {
     let readings = unsafe { mewkoast_readings(*receiver) };
-    [readings.lit, readings.points, readings.lit_points]
+    [readings.lit_time, readings.points, readings.lit_points]
 }

@@ -107,7 +107,7 @@ fn keep_alive() -> Case {
     }
 }
 
-/// Total Size is wrong: the check behind the record's own is the last.
+/// Total Size is wrong: the check after the record's own is the last.
 fn refused() -> Case {
     let mut message = plain(0, VOID, &[]);
     message[1] += 1;
@@ -185,9 +185,9 @@ fn routing(channel: u8, service: u8, mode: u8, tags: &[u8]) -> Vec<u8> {
     while tags.len() % 4 != 0 {
         tags.push(0);
     }
-    let mut behind = vec![(tags.len() / 4) as u8, 0x01, service, mode];
-    behind.extend(tags);
-    sized(0xC0 | channel, VOID, &behind)
+    let mut rest = vec![(tags.len() / 4) as u8, 0x01, service, mode];
+    rest.extend(tags);
+    sized(0xC0 | channel, VOID, &rest)
 }
 
 /// A message without configuration.
@@ -195,10 +195,10 @@ fn plain(channel: u8, kind: u8, data: &[u8]) -> Vec<u8> {
     sized(0x80 | channel, kind, data)
 }
 
-fn sized(second: u8, kind: u8, behind: &[u8]) -> Vec<u8> {
-    let mut message = ((8 + behind.len()) as u16).to_be_bytes().to_vec();
+fn sized(second: u8, kind: u8, rest: &[u8]) -> Vec<u8> {
+    let mut message = ((8 + rest.len()) as u16).to_be_bytes().to_vec();
     message.extend([second, kind, 0, 0, 0, 9]);
-    message.extend(behind);
+    message.extend(rest);
     message
 }
 

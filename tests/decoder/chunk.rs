@@ -91,10 +91,10 @@ pub fn read(governing: &Governing, kind: u8, data: &[u8], lent: Lent) -> Result<
     if data[0] >> 4 & 3 != governing.sdm {
         return Err(19);
     }
-    let (header, behind) = data.split_at(4);
+    let (header, body) = data.split_at(4);
     match &governing.tags {
-        Tags::Graphic(layout) => samples(layout, kind, header, behind, lent),
-        Tags::Dimmer(map) => levels(map, governing.mode, behind, lent),
+        Tags::Graphic(layout) => samples(layout, kind, header, body, lent),
+        Tags::Dimmer(map) => levels(map, governing.mode, body, lent),
         Tags::Ignored => Ok(Content::Nothing),
     }
 }

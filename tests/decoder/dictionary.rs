@@ -107,9 +107,9 @@ pub fn check(mode: u32, tags: &[u8]) -> Result<Layout, u32> {
     let mut layout = Layout::default();
     let mut before = Before::Other;
     let mut rest = tags;
-    while let [high, low, behind @ ..] = rest {
+    while let [high, low, after @ ..] = rest {
         let tag = read(mode, u16::from_be_bytes([*high, *low]))?;
-        if misplaced(before, tag, behind.len() / 2) {
+        if misplaced(before, tag, after.len() / 2) {
             return Err(10);
         }
         if too_many(&layout, tag) {
@@ -117,8 +117,8 @@ pub fn check(mode: u32, tags: &[u8]) -> Result<Layout, u32> {
         }
         before = add(&mut layout, before, tag);
         rest = match tag {
-            Tag::Void(words) => &behind[2 * words..],
-            _ => behind,
+            Tag::Void(words) => &after[2 * words..],
+            _ => after,
         };
     }
     if let Before::Prefix | Before::PrecisePrefix = before {
@@ -169,7 +169,7 @@ fn space_reserved(word: u16) -> bool {
     field(6) == 2 || field(2) == 2 || field(0) == 2
 }
 
-/// Check 10 at one tag that has `words` words behind it.
+/// Check 10 at one tag that has `words` words after it.
 fn misplaced(before: Before, tag: Tag, words: usize) -> bool {
     match (before, tag) {
         (Before::Prefix, Tag::Precision) => false,

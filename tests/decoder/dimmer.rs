@@ -31,21 +31,21 @@ pub fn check(tags: &[u8]) -> Result<Map, u32> {
     while let [tag, data @ ..] = rest {
         rest = match (*tag, data) {
             (0x00..=0x0F, _) => data.get(usize::from(*tag)..).ok_or(13u32)?,
-            (0x42, [high, low, behind @ ..]) => {
+            (0x42, [high, low, after @ ..]) => {
                 let new = whole(*high, *low).ok_or(13u32)?;
                 if base.is_some() || !subsets.is_empty() {
                     return Err(14);
                 }
                 base = Some(new);
-                behind
+                after
             }
-            (0x43, [high, low, count, behind @ ..]) => {
+            (0x43, [high, low, count, after @ ..]) => {
                 let new = subset(*high, *low, *count).ok_or(13u32)?;
                 if base.is_some() || subsets.len() == 32 || overlaps(&subsets, new) {
                     return Err(14);
                 }
                 subsets.push(new);
-                behind
+                after
             }
             _ => return Err(13),
         };
@@ -99,9 +99,9 @@ pub fn place(map: &Map, mode: u32, levels: &[u8], places: &mut [u8; PLACES]) -> 
             let mut written = 0;
             let mut rest = levels;
             for subset in subsets {
-                let (part, behind) = rest.split_at(usize::from(subset.count));
+                let (part, after) = rest.split_at(usize::from(subset.count));
                 written += copy(mode, subset.base, part, places);
-                rest = behind;
+                rest = after;
             }
             Ok(written)
         }

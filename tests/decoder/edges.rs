@@ -1,10 +1,10 @@
 //! Further cases, worked out by hand from the sections of document 01 that
 //! the tests name.
 
-use crate::bench::octets;
 use crate::dictionary::{answer, check, Part, Wavelength};
 use crate::dimmer::{self, Map, Subset, PLACES};
 use crate::rows::{lit, row};
+use crate::table::octets;
 
 fn given(mode: u32, text: &str) -> u32 {
     answer(mode, &octets(text))

@@ -22,13 +22,13 @@ pub fn listing(input: &[u8]) -> String {
             text += &format!("cut {}\n", rest.len());
             break;
         };
-        let (octets, behind) = rest.split_at(size);
+        let (octets, after) = rest.split_at(size);
         text += &line(&receiver.message(octets, &mut rows, &mut levels));
-        rest = behind;
+        rest = after;
     }
     // "then "meters" and the readings".
-    let [lit, points, lit_points] = receiver.readings();
-    text + &format!("meters {lit} {points} {lit_points}\n")
+    let [lit_time, points, lit_points] = receiver.readings();
+    text + &format!("meters {lit_time} {points} {lit_points}\n")
 }
 
 /// The size of the next message; none for "A size below 8 or past the end, or

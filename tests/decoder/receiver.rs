@@ -59,8 +59,8 @@ impl Receiver {
     /// "start, given a reading above it, replies 23 with a receiver whose
     /// readings are all 0. Start's reply is 0 in all but the number, and every
     /// channel is closed after it."
-    pub fn start(lit: u64, points: u64, lit_points: u64) -> (Receiver, Reply) {
-        let given = [lit, points, lit_points];
+    pub fn start(lit_time: u64, points: u64, lit_points: u64) -> (Receiver, Reply) {
+        let given = [lit_time, points, lit_points];
         let above = given.iter().any(|reading| *reading > LIMIT);
         let receiver = Receiver {
             channels: vec![None; 64],

@@ -1,11 +1,11 @@
 //! Further messages, worked out by hand from the sentences of document 01
 //! that the tests name.
 
-use crate::bench::octets;
 use crate::listing::listing;
 use crate::message::MOST;
 use crate::receiver::{Receiver, Reply, LIMIT};
-use crate::receiver_bench::{routed, Host, FRAME_OF_TWO};
+use crate::receiver_table::{routed, Host, FRAME_OF_TWO};
+use crate::table::octets;
 
 const PLAIN: &str = "4200 4210 527E 0000";
 

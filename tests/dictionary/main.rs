@@ -1,13 +1,12 @@
 //! Compares the dictionary check that a C host calls with the second decoder.
 //! `part` runs a fixed part of the cases, `whole` runs all of them.
 
-mod dictionaries;
 mod extent;
-mod random;
 mod tally;
 
-use dictionaries::{all, octets, SOURCE};
-use random::{Random, NOTABLE};
+use generate::dictionaries::{all, octets, SOURCE};
+use generate::random::Random;
+use generate::random_dictionary::NOTABLE;
 use std::process::ExitCode;
 use tally::Tally;
 
@@ -56,7 +55,7 @@ fn in_part(value: u16, start: usize) -> bool {
         || usize::from(value % 32) == start % 32
 }
 
-/// Puts strings of notable words before, into and behind a short dictionary:
+/// Puts strings of notable words before, into and after a short dictionary:
 /// strings of up to two words, or of three for the whole.
 fn strings(tally: &mut Tally, whole: bool) {
     let short = octets("4200 4210 527E");

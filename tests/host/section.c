@@ -31,7 +31,7 @@ static const section_case cases[] = {
     {"000C C500 00000000 00010000", 12, 0, "Routing, no words, no data"},
     {"000D C500 00000000 00FF0000 AA", 12, 1, "Routing, no words, every flag"},
     {"0010 C500 00000000 01010000 00000000", 16, 0, "the words end the message"},
-    {"0011 C500 00000000 01010000 00000000 AA", 16, 1, "one octet behind the words"},
+    {"0011 C500 00000000 01010000 00000000 AA", 16, 1, "one octet after the words"},
     /* Only 2, 3 and 5 give the empty part; 4, 6 and later checks do not. */
     {"000A 8503 00000000 AABB", 8, 2, "unknown type 03"},
     {"000A 85C0 00000000 AABB", 8, 2, "unknown type C0"},

@@ -96,7 +96,7 @@ impl Copies<'_> {
     fn meters(&mut self) {
         self.way = "a meter above the limit";
         for reading in [LIMIT + 1, u64::MAX] {
-            self.with(|copy| copy.lit = reading);
+            self.with(|copy| copy.lit_time = reading);
             self.with(|copy| copy.points = reading);
             self.with(|copy| copy.lit_points = reading);
         }
@@ -238,9 +238,9 @@ impl Copies<'_> {
                 format!("{way}: the slices")
             });
         let readings = calls::readings(copy);
-        self.tally
-            .same(readings == [copy.lit, copy.points, copy.lit_points], || {
-                format!("{way}: readings {readings:?}")
-            });
+        self.tally.same(
+            readings == [copy.lit_time, copy.points, copy.lit_points],
+            || format!("{way}: readings {readings:?}"),
+        );
     }
 }

@@ -3,9 +3,9 @@
 
 use crate::calls;
 use crate::tally::Tally;
-use decoder::generate::{Offer, Stream};
 use decoder::lookback::{sums, verdicts, Offered};
 use decoder::receiver::Receiver;
+use generate::stream::{Offer, Stream};
 
 /// Numbers and octets on either side of a slice lent, which no call may touch.
 const MARGIN: usize = 24;
@@ -40,8 +40,8 @@ pub struct Both {
 
 impl Both {
     fn start(readings: [u64; 3], tally: &mut Tally) -> Both {
-        let [lit, points, lit_points] = readings;
-        let (second, expected) = Receiver::start(lit, points, lit_points);
+        let [lit_time, points, lit_points] = readings;
+        let (second, expected) = Receiver::start(lit_time, points, lit_points);
         let started = calls::start(readings);
         let (proved, reply) = (started.receiver, started.reply.own());
         tally.same(reply == expected, || {

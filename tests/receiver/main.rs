@@ -16,10 +16,10 @@ mod tally;
 #[path = "../calls.rs"]
 mod calls;
 
-use decoder::end_to_end::end_to_end;
-use decoder::generate::stream;
 use decoder::listing::listing;
-use decoder::random::Random;
+use generate::end_to_end::end_to_end;
+use generate::random::Random;
+use generate::stream::stream;
 use std::process::ExitCode;
 use tally::Tally;
 
@@ -77,7 +77,7 @@ fn run(count: usize) -> bool {
             broken::offer(&last, &mut tally);
         }
         streams += 1;
-        // The streams that differ are left out behind the first message that
+        // The streams that differ are left out after the first message that
         // does, so the count is no bound by itself.
         if streams > count {
             break;

@@ -4,7 +4,7 @@ use crate::calls::{self, DimmerMapping};
 use crate::tally::{hexadecimal, refusal, Outcome, Tally};
 use decoder::dimmer::{check, place, Map, PLACES};
 
-/// Octets behind the 1,024 places that must stay as they were.
+/// Octets after the 1,024 places that must stay as they were.
 const GUARD: usize = 64;
 
 /// A mapping accepted by both sides.
@@ -29,12 +29,7 @@ fn has_base(tags: &[u8]) -> bool {
 
 /// The mapping as the header describes it.
 fn described(map: &Map, tags: &[u8]) -> DimmerMapping {
-    let mut mapping = DimmerMapping {
-        bases: [0; 32],
-        counts: [0; 32],
-        base: 0,
-        count: 0,
-    };
+    let mut mapping = DimmerMapping::NONE;
     match map {
         Map::Whole(base) if has_base(tags) => mapping.base = *base,
         Map::Whole(_) => {}
@@ -50,14 +45,14 @@ fn described(map: &Map, tags: &[u8]) -> DimmerMapping {
 }
 
 /// Offers dimmer tags to both sides; gives the mapping if both accept it and
-/// describe it alike.
+/// describe it alike. Where they are refused the mapping is all 0.
 pub fn compare_mapping(tally: &mut Tally, tags: &[u8]) -> Option<Accepted> {
     let given = calls::mapping(tags);
     let expected = check(tags);
     let number = *expected.as_ref().err().unwrap_or(&0);
     let same = match &expected {
         Ok(map) => given.number == 0 && given.dimmer == described(map, tags),
-        Err(number) => u32::from(given.number) == *number,
+        Err(number) => u32::from(given.number) == *number && given.dimmer == DimmerMapping::NONE,
     };
     tally.case(same, || {
         let (shown, dimmer) = (hexadecimal(tags), given.dimmer);

@@ -8,7 +8,7 @@ use decoder::rows::{lit, row};
 /// The numbers of a row.
 const ROW: usize = 24;
 
-/// Numbers behind the lent rows that must stay as they were.
+/// Numbers after the lent rows that must stay as they were.
 const GUARD: usize = 40;
 
 /// How the length of the lent rows differs from what the points need.
@@ -57,14 +57,14 @@ fn described(layout: &Layout) -> SampleLayout {
 }
 
 /// Offers a dictionary to both sides; gives the layout if both accept it and
-/// describe it alike.
+/// describe it alike. Where it is refused the layout is all 0.
 pub fn compare_layout(tally: &mut Tally, mode: u8, tags: &[u8]) -> Option<Accepted> {
     let given = calls::layout(mode, tags);
     let expected = check(u32::from(mode), tags);
     let number = *expected.as_ref().err().unwrap_or(&0);
     let same = match &expected {
         Ok(layout) => given.number == 0 && given.layout == described(layout),
-        Err(number) => u32::from(given.number) == *number,
+        Err(number) => u32::from(given.number) == *number && given.layout == SampleLayout::NONE,
     };
     tally.case(same, || {
         let (shown, layout) = (hexadecimal(tags), given.layout);

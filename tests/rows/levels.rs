@@ -1,10 +1,10 @@
 //! Which dimmer tags and levels are offered.
 
 use crate::dimmer::{compare_levels, compare_mapping, Accepted};
-use crate::random::Random;
 use crate::tags::HAND_MADE;
 use crate::tally::Tally;
 use decoder::dimmer::Map;
+use generate::random::Random;
 
 /// The octets of a hexadecimal text.
 fn octets(text: &str) -> Vec<u8> {

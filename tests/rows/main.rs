@@ -4,25 +4,22 @@
 mod dimmer;
 mod graphic;
 mod levels;
+mod made;
 mod samples;
 mod tags;
 mod tally;
 
 #[path = "../calls.rs"]
 mod calls;
-// The dictionaries, their generator and the word of the command are those of
-// the dictionary comparison.
-#[path = "../dictionary/dictionaries.rs"]
-mod dictionaries;
+// The word of the command is that of the dictionary comparison.
 #[path = "../dictionary/extent.rs"]
 mod extent;
-#[path = "../dictionary/random.rs"]
-mod random;
 
+use generate::dictionaries;
 use std::process::ExitCode;
 use tally::Tally;
 
-/// Hints before, between and behind colours and intensity, both formats.
+/// Hints before, between and after colours and intensity, both formats.
 const HINTS: &[&str] = &[
     "4200 4210 527E 4010 4100",
     "4101 4200 4210 527E 4010 5C10 4010",
@@ -49,6 +46,8 @@ fn main() -> ExitCode {
     levels::hand_made(&mut tally);
     levels::ranges(&mut tally, whole);
     levels::random_tags(&mut tally, if whole { 4_000_000 } else { 400_000 });
+    made::layouts(&mut tally);
+    made::mappings(&mut tally);
     println!("{}", tally.line());
     if tally.passed() {
         ExitCode::SUCCESS

@@ -1,9 +1,9 @@
 //! Which dictionaries and samples are drawn.
 
 use crate::graphic::{compare_draw, compare_layout, Accepted, Room};
-use crate::random::Random;
 use crate::tally::Tally;
 use decoder::dictionary::{Layout, Part};
+use generate::random::Random;
 
 /// Octets at the ends of ranges and around the divisions by 4, 16 and 64.
 const EDGES: [u8; 16] = [
@@ -94,7 +94,7 @@ pub fn hand_made(tally: &mut Tally, dictionaries: &[Vec<u8>], whole: bool) {
 }
 
 /// Every hint octet with every first octet, and with every precision octet
-/// behind three first octets.
+/// after three first octets.
 pub fn hints(tally: &mut Tally, dictionaries: &[Vec<u8>]) {
     for tags in dictionaries {
         let Some(accepted) = compare_layout(tally, 1, tags) else {

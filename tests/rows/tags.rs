@@ -6,9 +6,9 @@ pub const HAND_MADE: &[&str] = &[
     // No tag, skips alone, skips to the end and past it.
     "", "00", "00 00 00", "01 FF", "01", "02 42", "03 42 00 09", "0F", "0E 43 43 43",
     "0F 00 00 00 00 00 00 00 00 00 00 00 00 00 00 00",
-    // A skipped tag does not count, the one behind it does.
+    // A skipped tag does not count, the one after it does.
     "03 42 00 09 42 02 00", "04 43 00 01 05 43 00 01 05", "42 00 01 03 42 00 01",
-    // Unknown octets, alone, before and behind a tag.
+    // Unknown octets, alone, before and after a tag.
     "10", "40", "41", "44", "4F", "50", "FF", "42 00 01 10", "10 42 00 01", "43 00 01 01 41",
     // 42: cut, range, drop.
     "42", "42 00", "42 01", "42 00 00", "42 00 01", "42 01 00", "42 01 FF", "42 02 00",

@@ -74,7 +74,7 @@ pub fn refusal(number: u32) -> Outcome {
 pub struct Tally {
     cases: u64,
     points: u64,
-    lit: u64,
+    lit_points: u64,
     outcomes: [u64; WORDS.len()],
     differed: u64,
 }
@@ -95,9 +95,9 @@ impl Tally {
         self.outcomes[outcome as usize] += 1;
     }
 
-    pub fn drawn(&mut self, points: usize, lit: usize) {
+    pub fn drawn(&mut self, points: usize, lit_points: usize) {
         self.points += points as u64;
-        self.lit += lit as u64;
+        self.lit_points += lit_points as u64;
     }
 
     /// The line printed at the end.
@@ -106,7 +106,7 @@ impl Tally {
         for (word, count) in WORDS.iter().zip(self.outcomes) {
             let _ = write!(text, " {word} {count}");
         }
-        let _ = write!(text, " points {} lit {}", self.points, self.lit);
+        let _ = write!(text, " points {} lit {}", self.points, self.lit_points);
         let _ = write!(text, " differed {}", self.differed);
         text
     }

@@ -1,3 +1,5 @@
 pub mod Text
 pub mod Lines
-pub mod Input
+pub mod Reading
+pub mod Listing
+pub mod ListingLaws

@@ -1,10 +1,10 @@
 -- Numbers as text, and a text written at the front of a slice.
-use Prim.Native.Nat.{ℕ, zero, suc, _≤_, _/_}
+use Prim.Native.Nat.{ℕ, zero, suc, _+_, _-_, _≤_, _/_}
 use mathlib.Core.Path.{_≡_}
 use mathlib.Core.Bool.{cond}
 use mathlib.Core.List.{List, [], _∷_, _++_}
-use lib.ListN.{length, drop}
-use lib.Dec.{ltb, leb}
+use lib.ListN.{length, take, drop}
+use lib.Dec.{ltb}
 use Rattle.io.specs.Digits.{digits}
 
 -- how many digits n has in base ten, up to one more than `most`
@@ -16,16 +16,16 @@ places (suc most) n = cond (ltb n 10) 1 (suc (places most (n / 10)))
 unfoldable pub decimal : ℕ → List ℕ
 decimal n = digits 10 (places 19 n) n
 
--- each number behind a space
+-- each number after a space
 unfoldable pub spaced : List ℕ → List ℕ
 spaced [] = []
 spaced (n ∷ ns) = 32 ∷ decimal n ++ spaced ns
 
--- a line: its first word, the numbers behind it, and the line end
+-- a line: its first word, the numbers after it, and the line end
 unfoldable pub lineOf : List ℕ → List ℕ → List ℕ
 lineOf word ns = word ++ spaced ns ++ (10 ∷ [])
 
--- a slice with the text at its front, and as it was behind the text
+-- a slice with the text at its front, and as it was after the text
 abbrev pub over : List ℕ → List ℕ → List ℕ
 over text out = text ++ drop (length text) out
 
@@ -34,13 +34,18 @@ pub record Front (text out₀ : List ℕ) (r : ℕ) (out₁ : List ℕ) : Type 0
   pub count : r ≡ length text
   pub out : out₁ ≡ over text out₀
 
--- the room that a slice must have for a line: no line is longer
+-- the room that a line must have: no line is longer
 abbrev pub room : ℕ
 room = 128
 
--- what a call that writes a line has done: the line stands at the front of the slice, or, where the slice has too little room,
--- nothing is written and the count is 0
-pub record Written (text out₀ : List ℕ) (r : ℕ) (out₁ : List ℕ) : Type 0 where
-  pub count : r ≡ cond (leb room (length out₀)) (length text) 0
-  pub out : out₁ ≡ cond (leb room (length out₀)) (over text out₀) out₀
-  pub fits : r ≤ length out₀
+-- the place for the next line in a buffer of so many octets: after those collected, or the start, once they are written out, where a line
+-- might not fit
+abbrev pub placeFor : ℕ → ℕ → ℕ
+placeFor at size = cond (ltb (size - at) room) 0 at
+
+-- what a call has done that adds a text to a slice at a place: the text stands before the place that it gives, and what lies before and
+-- after the text is as it was
+pub record Added (text : List ℕ) (at : ℕ) (out₀ : List ℕ) (r : ℕ) (out₁ : List ℕ) : Type 0 where
+  pub count : r ≡ at + length text
+  pub out : out₁ ≡ take at out₀ ++ text ++ drop (at + length text) out₀
+  pub fits : r ≤ length out₁

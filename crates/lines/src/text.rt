@@ -1,10 +1,9 @@
-// Text written at the front of a slice. Each function writes at the front of what it is lent, and its caller lends what lies behind
-// the text written so far.
-use super::ROOM;
+// Text written into a slice. A number is written at the front of what is lent, and its caller lends what lies after the text written so
+// far; a line is added at a place.
 ghost use mathlib.Core.List.{_∷_};
-ghost use Prim.Native.Nat.{_*_, _≤_};
+ghost use Prim.Native.Nat.{_+_, _*_, _≤_};
 ghost use lib.ListN.{length};
-ghost use Rattle.lines.specs.Text.{decimal, spaced, lineOf, Front, Written};
+ghost use Rattle.lines.specs.Text.{decimal, spaced, lineOf, room, Front, Added};
 
 // A space, and a number in decimal.
 fn number(n: u64, out: &mut [u8]) -> usize
@@ -17,7 +16,7 @@ fn number(n: u64, out: &mut [u8]) -> usize
     1 + bytes::copy(&digits[..k], &mut out[1..])
 }
 
-// Each number behind a space.
+// Each number after a space.
 fn numbers(ns: &[u64], out: &mut [u8]) -> usize
     requires { ⌜ 21 * length (now ns) ≤ length (now out) ⌝ }
     ensures { λ r. ⌜ Front (spaced (now (ns .entry))) (now (out .entry)) r (now (out .exit)) ⌝ }
@@ -32,15 +31,13 @@ fn numbers(ns: &[u64], out: &mut [u8]) -> usize
 }
 
 // A line of a word and numbers. A word of up to 20 octets and four numbers are all that a line of the listing has.
-pub(crate) fn line(word: &[u8], ns: &[u64], out: &mut [u8]) -> usize
+pub(crate) fn line(word: &[u8], ns: &[u64], at: usize, out: &mut [u8]) -> usize
     requires { ⌜ length (now word) ≤ 20 ⌝ }
     requires { ⌜ length (now ns) ≤ 4 ⌝ }
-    ensures { λ r. ⌜ Written (lineOf (now (word .entry)) (now (ns .entry))) (now (out .entry)) r (now (out .exit)) ⌝ }
+    requires { ⌜ at + room ≤ length (now out) ⌝ }
+    ensures { λ r. ⌜ Added (lineOf (now (word .entry)) (now (ns .entry))) at (now (out .entry)) r (now (out .exit)) ⌝ }
 {
-    if out.len() < ROOM {
-        return 0;
-    }
-    let a = bytes::copy(word, out);
+    let a = at + bytes::copy(word, &mut out[at..]);
     let b = a + numbers(ns, &mut out[a..]);
     b + bytes::copy(b"\n", &mut out[b..])
 }

@@ -1,126 +1,129 @@
 // The listing program: reads messages end to end from standard input, prints a line for each, and then the meters. The lines, and what
-// counts as a message, are the crate lines'; here is only the reading and the writing.
-use libc::STDIN_FILENO;
-use libc::STDOUT_FILENO;
+// becomes of octets once they are read, are the crate lines'; here are the calls that read and write.
+mod input;
+mod output;
+
+use input::cut_count;
+use input::read_on;
+use lines::reading;
+use lines::reading::Unread;
+use output::Output;
+use output::flush;
+use output::flush_to_wait;
+use output::make_room;
+use output::nothing_put;
+use output::put_cut;
+use output::put_meters;
+use receiver::Outcome;
 use receiver::Readings;
 use receiver::Receiver;
-use receiver::Reply;
-ghost use Prim.Native.Nat.{_≤_};
+ghost use mathlib.Core.Path.{_≡_};
+ghost use mathlib.Core.Bool.{false};
+ghost use Prim.Native.Nat.{_+_, _<_, _≤_};
 ghost use lib.ListN.{length};
+ghost use Rattle.receiver.specs.Slices.{slices};
+ghost use Rattle.receiver.specs.Meters.{sums};
+ghost use Rattle.receiver.specs.Contract.{Started, Answered};
+ghost use Rattle.lines.specs.Text.{room, Added};
+ghost use Rattle.lines.specs.Lines.{replyLine};
+ghost use Rattle.lines.specs.Reading.{part, unread, most, Ready, goesOn};
+ghost use Rattle.lines.specs.Listing.{ListedTo};
 
-// What is read and not yet listed: the octets of a buffer from one place up to another.
-struct Span {
-    from: usize,
-    end: usize,
+// What the listing of the messages leaves: the readings, the lines not yet written out, the octets not listed, and how many messages
+// there were.
+struct Listed {
+    readings: Readings,
+    output: Output,
+    unread: Unread,
+    messages: u64,
 }
 
-// Moves what is not yet listed to the start of the buffer and fills the buffer from the input, where a whole message may not be there
-// and the input has not ended: a read that leaves the buffer short has met its end. The move goes by way of spare.
-fn read_on(from: usize, end: usize, octets: &mut [u8], spare: &mut [u8]) -> Span
-    requires { ⌜ from ≤ end ⌝ }
-    requires { ⌜ end ≤ length (now octets) ⌝ }
-    requires { ⌜ 65536 ≤ length (now spare) ⌝ }
-    ensures { λ r. ⌜ r .from ≤ r .end ⌝ }
-    ensures { λ r. ⌜ r .end ≤ length (now (octets .exit)) ⌝ }
+// A receiver started with three readings of 0.
+fn started() -> Outcome
+    ensures { λ o. ⌜ Started (sums 0 0 0) o ⌝ }
 {
-    if end < octets.len() {
-        return Span { from, end };
-    }
-    if end - from >= 65536 {
-        return Span { from, end };
-    }
-    let kept = bytes::copy(&octets[from..end], spare);
-    bytes::copy(&spare[0..kept], octets);
-    let got = io::read_full(STDIN_FILENO, &mut octets[kept..]);
-    Span {
-        from: 0,
-        end: kept + got,
-    }
+    Receiver::start(0, 0, 0)
 }
 
-// Reads to the end of the input, and gives how many octets came, with those before them. What is left of the largest number falls with
-// each read, so that the loop ends.
-fn count_rest(before: usize, buf: &mut [u8]) -> u64 {
-    let mut left = u64::MAX - before as u64;
-    loop {
-        let got = io::read_full(STDIN_FILENO, buf) as u64;
-        if got == 0 || left < got {
-            return u64::MAX - left;
-        }
-        left -= got;
-    }
-}
-
-// Gives the place for the next line in out: at, or the start after all up to there is written out, where a line might not fit.
-fn place(at: usize, out: &[u8]) -> usize
-    requires { ⌜ at ≤ length (now out) ⌝ }
-    ensures { λ r. ⌜ r ≤ length (now (out .entry)) ⌝ }
+// Offers the message at the front of the unread octets, with 12,000 numbers and 1,024 octets lent, and adds the line of the reply at a
+// place of out, which is then the place after the line.
+fn list_message(
+    receiver: Receiver,
+    unread: Unread,
+    octets: &[u8],
+    rows: &mut [i32],
+    levels: &mut [u8],
+    at: &mut usize,
+    out: &mut [u8],
+) -> Outcome
+    requires { ⌜ unread .from + unread .size ≤ length (now octets) ⌝ }
+    requires { ⌜ length (now rows) ≡ 12000 ⌝ }
+    requires { ⌜ length (now levels) ≡ 1024 ⌝ }
+    requires { ⌜ now at + room ≤ length (now out) ⌝ }
+    ensures { λ o. ⌜ Answered receiver (part (unread .from) (unread .from + unread .size) (now (octets .entry))) (slices (now (rows .entry)) (now (levels .entry))) o (slices (now (rows .exit)) (now (levels .exit))) ⌝ }
+    ensures { λ o. ⌜ Added (replyLine (o .reply)) (now (at .entry)) (now (out .entry)) (now (at .exit)) (now (out .exit)) ⌝ }
 {
-    if out.len() - at < lines::ROOM {
-        io::write_all(STDOUT_FILENO, &out[0..at]);
-        return 0;
-    }
-    at
+    let from = unread.from;
+    let next = from + unread.size;
+    let outcome = receiver.message(&octets[from..next], rows, levels);
+    *at = lines::reply_line(outcome.reply, *at, out);
+    outcome
 }
 
-// The line of a reply, put behind what is collected in out.
-fn put_reply(reply: Reply, at: usize, out: &mut [u8]) -> usize
-    requires { ⌜ at ≤ length (now out) ⌝ }
-    ensures { λ r. ⌜ r ≤ length (now (out .exit)) ⌝ }
+// Lists the messages, from a receiver that is started at 0 0 0, as far as whole ones come.
+fn list_messages(
+    octets: &mut [u8],
+    spare: &mut [u8],
+    rows: &mut [i32],
+    levels: &mut [u8],
+    out: &mut [u8],
+) -> Listed
+    requires { ⌜ most < length (now octets) ⌝ }
+    requires { ⌜ most ≤ length (now spare) ⌝ }
+    requires { ⌜ room ≤ length (now out) ⌝ }
+    requires { ⌜ length (now rows) ≡ 12000 ⌝ }
+    requires { ⌜ length (now levels) ≡ 1024 ⌝ }
+    ensures { λ r. ⌜ Ready (r .unread) (now (octets .exit)) ⌝ }
+    ensures { λ r. ⌜ goesOn (r .unread .size) (r .messages) ≡ false ⌝ }
+    ensures { λ r. ⌜ ListedTo (r .messages) (r .readings) (unread (r .unread) (now (octets .exit))) ⌝ }
+    ensures { λ r. ⌜ r .output .at ≤ length (now (out .exit)) ⌝ }
 {
-    let from = place(at, out);
-    from + lines::reply_line(reply, &mut out[from..])
-}
-
-// The line of an input that is cut, put there too; got octets are read of what is left. An input that ends behind a message is not cut.
-fn put_cut(got: usize, octets: &mut [u8], at: usize, out: &mut [u8]) -> usize
-    requires { ⌜ at ≤ length (now out) ⌝ }
-    ensures { λ r. ⌜ r ≤ length (now (out .exit)) ⌝ }
-{
-    if got == 0 {
-        return at;
-    }
-    let count = count_rest(got, octets);
-    let from = place(at, out);
-    from + lines::cut_line(count, &mut out[from..])
-}
-
-// Puts the line of the meters behind what is collected, and writes all out.
-fn finish(readings: Readings, at: usize, out: &mut [u8])
-    requires { ⌜ at ≤ length (now out) ⌝ }
-{
-    let from = place(at, out);
-    let end = from + lines::meters_line(readings, &mut out[from..]);
-    io::write_all(STDOUT_FILENO, &out[0..end]);
-}
-
-// Prints a line for each message with the slices lent, from a receiver that is started at 0. A proved loop has to end, and nothing says
-// that the input does: so the loop counts its turns down, from a number that no run uses up.
-fn list(octets: &mut [u8], spare: &mut [u8], rows: &mut [i32], levels: &mut [u8], out: &mut [u8])
-    requires { ⌜ 65536 ≤ length (now spare) ⌝ }
-{
-    let started = Receiver::start(0, 0, 0);
-    let mut receiver = started.receiver;
-    let mut at: usize = 0;
-    let mut from: usize = 0;
-    let mut end = io::read_full(STDIN_FILENO, octets);
-    let mut size = lines::entry(&octets[from..end]);
-    let mut turns = u64::MAX;
-    while turns > 0 && size > 0 {
-        let next = from + size;
-        let outcome = receiver.message(&octets[from..next], rows, levels);
+    let first = started();
+    let mut receiver = first.receiver;
+    let mut output = nothing_put();
+    let mut unread = read_on(0, 0, octets, spare);
+    let mut messages: u64 = 0;
+    while reading::goes_on(unread.size, messages) {
+        output = make_room(output, out);
+        let outcome = list_message(receiver, unread, octets, rows, levels, &mut output.at, out);
         receiver = outcome.receiver;
-        let reply = outcome.reply;
-        at = put_reply(reply, at, out);
-        let left = read_on(next, end, octets, spare);
-        from = left.from;
-        end = left.end;
-        size = lines::entry(&octets[from..end]);
-        turns -= 1;
+        let next = unread.from + unread.size;
+        output = flush_to_wait(next, unread.end, octets, output, out);
+        unread = read_on(next, unread.end, octets, spare);
+        messages += 1;
     }
-    at = put_cut(end - from, octets, at, out);
     let readings = receiver.readings();
-    finish(readings, at, out);
+    Listed {
+        readings,
+        output,
+        unread,
+        messages,
+    }
+}
+
+// Lists the messages, then what is cut, then the meters, and writes all out.
+fn list(octets: &mut [u8], spare: &mut [u8], rows: &mut [i32], levels: &mut [u8], out: &mut [u8])
+    requires { ⌜ most < length (now octets) ⌝ }
+    requires { ⌜ most ≤ length (now spare) ⌝ }
+    requires { ⌜ room ≤ length (now out) ⌝ }
+    requires { ⌜ length (now rows) ≡ 12000 ⌝ }
+    requires { ⌜ length (now levels) ≡ 1024 ⌝ }
+{
+    let listed = list_messages(octets, spare, rows, levels, out);
+    let rest = cut_count(listed.unread, octets);
+    let with_cut = put_cut(rest.count, listed.output, out);
+    let with_meters = put_meters(listed.readings, with_cut, out);
+    flush(with_meters, out);
 }
 
 fn main() {

@@ -1,2 +1,14 @@
+pub mod CheckLaws
+pub mod HeaderLaws
+pub mod RecordLaws
+pub mod SettleLaws
+pub mod FreshLaws
+pub mod RouteLaws
+pub mod ChunkLaws
+pub mod MeterLaws
+pub mod JudgeLaws
+pub mod AnswerLaws
+pub mod LookBackLaws
+pub mod Calls
 pub mod History
 pub mod Runs

@@ -1,23 +1,27 @@
 -- The bench table of document 01, cases a to h, worked out by the definitions: each row has what the definitions give and what the
 -- paper says, and one proof, by computation, says that they are equal.
-use mathlib.Core.Path.{_≡_, refl}
+use mathlib.Core.Path.{refl}
 use Prim.Native.Nat.{ℕ, _+_, _/_, _%_}
 use mathlib.Core.Bool.{Bool, cond}
-use mathlib.Core.List.{List, [], _∷_, _++_, map}
+use mathlib.Core.List.{List, [], _∷_, _++_}
 use lib.ListN.{length, take, drop, replicate}
 use lib.IntN.{ℤ, pos, negsuc}
+use Rattle.tags.specs.Table.{Row, row, Agrees}
 use Rattle.tags.specs.Rows.{placeOf}
 use Rattle.tags.specs.Rows.{colourOf, intensityOf, waveOf, slotOf, slotsOf, litAmong, litOf}
 use Rattle.tags.specs.Rows.{rowsOf, litIn}
 use Rattle.tags.specs.Tag.{definedGroup, isSingle, reservedSpace, knownTag, slotFor}
-use Rattle.tags.specs.Dictionary.{misplaced, repeated, tagNumber, roleFor, sampleWith, allowedBehind, read, step, walked, incomplete, endNumber, dictionaryNumber, dictionarySample}
+use Rattle.tags.specs.Dictionary.{misplaced, repeated, tagNumber, roleFor, sampleWith, allowedAfter, read, step, walked, incomplete, endNumber, dictionaryNumber, dictionarySample}
 use Rattle.tags.specs.Dimmer.{overlapsAny, badDimmerTag, clashingTag, dimmerTagNumber, mappingWith, readDimmer, stepDimmer, dimmed, dimmerNumber, dimmerMapping}
 use Rattle.tags.specs.Levels.{countSum, levelsFit}
 use Rattle.receiver.specs.Message.{tagsOf, dataOf}
-use Rattle.receiver.specs.Governing.{closed, routed}
-use Rattle.receiver.specs.Checks.{Sums, sums, headerNumber, tagsNumber, routingNumber, routeNumber, waveElsewhere, channelNumber, governs, pointsOf, litPointsOf, drawNumber, dimNumber, chunkNumber, addedBy, meterNumber, numberOf}
-use Rattle.receiver.specs.Effects.{replyOf, rowsAfter, sumsAfter}
-use Rattle.receiver.specs.LookBack.{lookback, workedOut, judged, historySums}
+use Rattle.receiver.specs.Governing.{Configuration, closed, meant}
+use Rattle.receiver.specs.Slices.{slices, lent}
+use Rattle.receiver.specs.Chunk.{pointsOf, litPointsOf, levelsOf}
+use Rattle.receiver.specs.Meters.{Sums, sums, addedBy}
+use Rattle.receiver.specs.Checks.{headerNumber, tagsNumber, routingNumber, routeNumber, heldElsewhere, holderNumber, closedNumber, governs, matchNumber, drawNumber, dimNumber, contentNumber, meterNumber, numberOf}
+use Rattle.receiver.specs.Effects.{replyOf, drawn, slicesAfter, sumsAfter}
+use Rattle.receiver.specs.LookBack.{offer, lookback, workedOut, judged, historySums}
 
 -- ---- what the rows of the table are made of
 
@@ -28,16 +32,20 @@ routingMessage t mode tags chunk =
     ++ tags
     ++ chunk
 
+-- every channel closed, as at a receiver newly started
+abbrev allClosed : ℕ → Configuration
+allClosed c = meant closed
+
 -- its number at a receiver newly started, lent 12,000 numbers and 1,024 octets
 firstNumber : List ℕ → ℤ
-firstNumber m = pos (numberOf m 12000 1024 (λ c. closed) (sums 0 0 0))
+firstNumber m = pos (numberOf m (lent 12000 1024) allClosed (sums 0 0 0))
 
--- a chunk of n octets of samples or levels, all 0, behind its header
-chunkOf : ℕ → List ℕ
-chunkOf n = replicate (4 + n) 0
+-- a chunk of n octets of samples or levels, all 0, after its header
+zerosChunk : ℕ → List ℕ
+zerosChunk n = replicate (4 + n) 0
 
 sumsList : Sums → List ℤ
-sumsList s = pos (s .lit) ∷ pos (s .points) ∷ pos (s .litPoints) ∷ []
+sumsList s = pos (s .litTime) ∷ pos (s .points) ∷ pos (s .litPoints) ∷ []
 
 bit : Bool → ℤ
 bit b = cond b (pos 1) (pos 0)
@@ -82,14 +90,6 @@ tagsG = 0x42 ∷ 0x00 ∷ 0x42 ∷ 0x10 ∷ 0x52 ∷ 0x7E ∷ 0x00 ∷ 0x00 ∷ 
 
 -- ---- the table
 
--- what the definitions give, and what the paper says
-pub record Row : Type 0 where
-  pub given : List ℤ
-  pub said : List ℤ
-
-row : List ℤ → List ℤ → Row
-row given said = record { given = given; said = said }
-
 -- the row of numbers that a sample gives by these tags
 sampleRow : ℕ → List ℕ → List ℕ → List ℤ
 sampleRow mode tags sample = slotsOf (dictionarySample mode tags .roles) (dictionarySample mode tags .waves) sample 24
@@ -103,7 +103,7 @@ litIs mode tags sample = bit (litOf (dictionarySample mode tags .roles) sample)
 z : ℤ
 z = pos 0
 
--- case a's two rows, and the two numbers behind them that stay
+-- case a's two rows, and the two numbers after them that stay
 rowsA : List ℤ
 rowsA =
     negsuc 32767 ∷ pos 1 ∷ z ∷ z ∷ z ∷ pos 1 ∷ z ∷ z ∷ z ∷ z ∷ z ∷ z ∷ z ∷ z ∷ z ∷ z ∷ pos 40832 ∷ pos 34048 ∷ pos 29440 ∷ z ∷ z ∷ z ∷ z ∷ z
@@ -112,16 +112,16 @@ rowsA =
 
 replyA : List ℤ
 replyA =
-    let r = replyOf messageA 0 (governs messageA (λ c. closed)) in
-    pos (r .channel .0) ∷ pos (r .chunk) ∷ pos (r .number) ∷ pos (r .points) ∷ pos (r .«lit_points») ∷ []
+    let r = replyOf messageA 0 (governs messageA allClosed) in
+    pos (r .channel .0) ∷ pos (r .«chunk_type») ∷ pos (r .number) ∷ pos (r .points) ∷ pos (r .«lit_points») ∷ []
 
-pub table : List Row
+pub table : List (Row ℤ)
 table =
     -- a: accepted; the rows; the listing's line; the meters
     row (firstNumber messageA ∷ []) (z ∷ [])
-    ∷ row (rowsAfter messageA 0 (governs messageA (λ c. closed)) (replicate 50 (pos 7))) rowsA
+    ∷ row (slicesAfter messageA 0 (governs messageA allClosed) (slices (replicate 50 (pos 7)) []) .rows) rowsA
     ∷ row replyA (pos 5 ∷ pos 2 ∷ z ∷ pos 2 ∷ pos 1 ∷ [])
-    ∷ row (sumsList (historySums (sums 0 0 0) (record { octets = messageA; rows = 12000; levels = 1024 } ∷ []))) (pos 100 ∷ pos 2 ∷ pos 1 ∷ [])
+    ∷ row (sumsList (historySums (sums 0 0 0) (offer messageA (lent 12000 1024) ∷ []))) (pos 100 ∷ pos 2 ∷ pos 1 ∷ [])
     -- b
     ∷ row (slotIn 8 1 tagsB (0 ∷ 0 ∷ 0xFF ∷ 0x40 ∷ [])) (pos 16320 ∷ [])
     ∷ row (slotIn 8 1 tagsB (0 ∷ 0 ∷ 0xFF ∷ 0xC0 ∷ [])) (pos 1020 ∷ [])
@@ -130,17 +130,17 @@ table =
     -- d
     ∷ row (litIs 2 tagsD (0 ∷ 0 ∷ 0 ∷ 0x3F ∷ 0xC0 ∷ []) ∷ litIs 2 tagsD (0 ∷ 0 ∷ 0 ∷ 0x40 ∷ 0xC0 ∷ []) ∷ []) (z ∷ pos 1 ∷ [])
     -- e
-    ∷ row (firstNumber (routingMessage 0x18 6 tagsE (chunkOf 3)) ∷ firstNumber (routingMessage 0x18 6 tagsE (chunkOf 4)) ∷ []) (z ∷ pos 21 ∷ [])
+    ∷ row (firstNumber (routingMessage 0x18 6 tagsE (zerosChunk 3)) ∷ firstNumber (routingMessage 0x18 6 tagsE (zerosChunk 4)) ∷ []) (z ∷ pos 21 ∷ [])
     -- f
     ∷ row (firstNumber (routingMessage 0 6 tagsF []) ∷ firstNumber (routingMessage 0 6 tagsF′ []) ∷ []) (z ∷ pos 14 ∷ [])
     -- g
-    ∷ row (firstNumber (routingMessage 1 1 tagsG (chunkOf 57)) ∷ firstNumber (routingMessage 1 1 tagsG (chunkOf 60)) ∷ []) (pos 20 ∷ z ∷ [])
-    ∷ row (firstNumber (routingMessage 2 2 tagsG (chunkOf 0)) ∷ firstNumber (routingMessage 2 2 tagsG (chunkOf 3)) ∷ []) (z ∷ pos 20 ∷ [])
+    ∷ row (firstNumber (routingMessage 1 1 tagsG (zerosChunk 57)) ∷ firstNumber (routingMessage 1 1 tagsG (zerosChunk 60)) ∷ []) (pos 20 ∷ z ∷ [])
+    ∷ row (firstNumber (routingMessage 2 2 tagsG (zerosChunk 0)) ∷ firstNumber (routingMessage 2 2 tagsG (zerosChunk 3)) ∷ []) (z ∷ pos 20 ∷ [])
     -- h
     ∷ row (pos (dictionaryNumber 2 (0x40 ∷ 0x10 ∷ [])) ∷ pos (dictionaryNumber 2 (0x30 ∷ 0x00 ∷ [])) ∷ pos (dictionaryNumber 2 (0x42 ∷ 0x30 ∷ [])) ∷ [])
     (pos 10 ∷ pos 8 ∷ pos 9 ∷ [])
     ∷ []
 
-pub bench : map (λ (r : Row). r .given) table ≡ map (λ (r : Row). r .said) table
-unfolding routingMessage firstNumber chunkOf sumsList bit messageA tagsB tagsC tagsD tagsE tagsF tagsF′ tagsG row sampleRow slotIn litIs z rowsA replyA table placeOf colourOf intensityOf waveOf slotOf slotsOf litAmong rowsOf litIn definedGroup isSingle reservedSpace knownTag slotFor misplaced repeated tagNumber roleFor sampleWith allowedBehind read step walked incomplete endNumber dictionaryNumber dictionarySample overlapsAny badDimmerTag clashingTag dimmerTagNumber mappingWith readDimmer stepDimmer dimmed dimmerNumber dimmerMapping countSum levelsFit tagsOf dataOf routed headerNumber tagsNumber routingNumber routeNumber waveElsewhere channelNumber governs pointsOf litPointsOf drawNumber dimNumber chunkNumber addedBy meterNumber numberOf replyOf rowsAfter sumsAfter lookback workedOut judged
+pub bench : Agrees table
+unfolding routingMessage firstNumber zerosChunk sumsList bit messageA tagsB tagsC tagsD tagsE tagsF tagsF′ tagsG sampleRow slotIn litIs z rowsA replyA table placeOf colourOf intensityOf waveOf slotOf slotsOf litAmong rowsOf litIn definedGroup isSingle reservedSpace knownTag slotFor misplaced repeated tagNumber roleFor sampleWith allowedAfter read step walked incomplete endNumber dictionaryNumber dictionarySample overlapsAny badDimmerTag clashingTag dimmerTagNumber mappingWith readDimmer stepDimmer dimmed dimmerNumber dimmerMapping countSum levelsFit tagsOf dataOf meant headerNumber tagsNumber routingNumber routeNumber heldElsewhere holderNumber closedNumber governs pointsOf litPointsOf levelsOf matchNumber drawNumber dimNumber contentNumber addedBy meterNumber numberOf replyOf drawn slicesAfter sumsAfter lookback workedOut judged
 bench = refl

@@ -1,62 +1,54 @@
 -- Checks 2 to 23 in their order (document 01, "Checks, in order"). What the channels are is given by g, for each channel what governs
 -- it before the message, and the meters by their sums so far; nothing here knows where either comes from. The message contract
 -- reads them off the receiver, the look-back rule finds them in the list.
-use Prim.Native.Nat.{ℕ, zero, suc, _+_, _*_, _/_, _%_}
+use Prim.Native.Nat.{ℕ, zero, suc, _*_, _%_}
 use mathlib.Core.Bool.{Bool, false, cond, not, _&&_, _||_}
 use mathlib.Core.List.{List}
-use lib.ListN.{length, drop}
-use lib.Dec.{ltb, leb, eqb}
-use Rattle.tags.specs.Rows.{pointsIn, litIn}
+use lib.ListN.{length}
+use lib.Dec.{ltb, eqb}
+use Rattle.tags.specs.Limits.{rowSize, placeCount}
 use Rattle.tags.specs.Choice.{refuse, first}
 use Rattle.tags.specs.Dictionary.{dictionaryNumber}
 use Rattle.tags.specs.Dimmer.{Mapping, dimmerNumber}
+use Rattle.tags.specs.Rows.{sampleOctets, samplesOf, pointsFor}
 use Rattle.tags.specs.Levels.{levelsFit}
-use Rattle.receiver.specs.Message.{octet, totalSize, topBit, channelOf, typeOf, routes, serviceOf, modeOf, dataStart, tagsOf, dataOf}
-use Rattle.receiver.specs.Governing.{Governing, graphic, dimming, routedBy}
-
--- the three meters: lit microseconds, points, lit points
-pub record Sums : Type 0 where
-  pub lit : ℕ
-  pub points : ℕ
-  pub litPoints : ℕ
-
-abbrev pub sums : ℕ → ℕ → ℕ → Sums
-sums lit points litPoints = record { lit = lit; points = points; litPoints = litPoints }
-
--- "Each is limited to 36,000,000,000,000,000 (ten million hours)"
-abbrev pub limit : ℕ
-limit = 36_000_000_000_000_000
+use Rattle.receiver.specs.Message.{totalSize, topBit, channelOf, typeOf, routes, serviceOf, modeOf, dataStart, tagsOf}
+use Rattle.receiver.specs.Modes.{graphicMode, dimmerMode, voidMode, knownMode, serviceFits, exclusiveMode, channelCount}
+use Rattle.receiver.specs.Governing.{Configuration, routedBy, meant}
+use Rattle.receiver.specs.Slices.{Lent}
+use Rattle.receiver.specs.Chunk.{Chunk, chunkOf, voidType, knownType, isDrawing, isDimming, scm, body}
+use Rattle.receiver.specs.Meters.{Sums, plus, overLimit, addedBy}
 
 -- ---- checks 2 to 5: the length and the header
 
+-- the least and the largest length of a message
+abbrev pub leastMessage : ℕ
+leastMessage = 8
+
+abbrev pub largestMessage : ℕ
+largestMessage = 65_280
+
 -- 2. "The length is below 8, above 65,280, or not Total Size."
 abbrev pub wrongLength : List ℕ → Bool
-wrongLength m = ltb (length m) 8 || ltb 65280 (length m) || not (eqb (length m) (totalSize m))
+wrongLength m =
+    ltb (length m) leastMessage || ltb largestMessage (length m) || not (eqb (length m) (totalSize m))
 
--- 4. "The type is not 0x00, 0x01, 0x02 or 0x18."
-abbrev pub knownType : ℕ → Bool
-knownType t = leb t 2 || eqb t 0x18
+-- 5. "The configuration header, or with Routing its words, pass the end."
+abbrev pub passesEnd : List ℕ → Bool
+passesEnd m = ltb (length m) (dataStart m)
 
 unfoldable pub headerNumber : List ℕ → ℕ
 headerNumber m =
     first (refuse (wrongLength m) 2)
     (first (refuse (eqb (topBit m) 0) 3)
     (first (refuse (not (knownType (typeOf m))) 4)
-    (refuse (ltb (length m) (dataStart m)) 5)))
+    (refuse (passesEnd m) 5)))
 
 -- ---- checks 6 to 14: with Routing, the mode, the service and the tags
 
--- 6. "the mode is not 0, 1, 2, 4 or 6"
-abbrev pub knownMode : ℕ → Bool
-knownMode mode = eqb mode 0 || graphic mode || dimming mode
-
--- 7. "1 is the laser (modes 1, 2, 4), 2 is DMX (mode 6), 0 is the default for the mode. Mode 0 (Void) goes with 0, 1 or 2"
-abbrev pub serviceFits : ℕ → ℕ → Bool
-serviceFits mode service = eqb service 0 || eqb service 1 && not (eqb mode 6) || eqb service 2 && (eqb mode 6 || eqb mode 0)
-
 -- 8 to 12 in modes 1 and 2, 13 and 14 in modes 4 and 6; "Mode 0 skips 8 to 14"
 unfoldable pub tagsNumber : ℕ → List ℕ → ℕ
-tagsNumber mode tags = cond (graphic mode) (dictionaryNumber mode tags) (cond (dimming mode) (dimmerNumber tags) 0)
+tagsNumber mode tags = cond (graphicMode mode) (dictionaryNumber mode tags) (cond (dimmerMode mode) (dimmerNumber tags) 0)
 
 unfoldable pub routingNumber : ℕ → ℕ → List ℕ → ℕ
 routingNumber mode service tags =
@@ -69,118 +61,86 @@ routeNumber m = cond (routes m) (routingNumber (modeOf m) (serviceOf m) (tagsOf 
 
 -- ---- checks 15 and 16: the channels
 
--- open in mode 1
-abbrev pub isWave : Governing → Bool
-isWave v = v .isOpen && eqb (v .mode) 1
+-- open in the mode
+abbrev pub holds : ℕ → Configuration → Bool
+holds mode v = v .isOpen && eqb (v .mode) mode
 
--- one of the first n channels, other than c, is open in mode 1
-unfoldable pub waveElsewhere : (ℕ → Governing) → ℕ → ℕ → Bool
-waveElsewhere g c zero = false
-waveElsewhere g c (suc n) = waveElsewhere g c n || not (eqb n c) && isWave (g n)
+-- one of the first n channels, other than c, is open in the mode
+unfoldable pub heldElsewhere : (ℕ → Configuration) → ℕ → ℕ → ℕ → Bool
+heldElsewhere g mode c zero = false
+heldElsewhere g mode c (suc n) = heldElsewhere g mode c n || not (eqb n c) && holds mode (g n)
 
--- 15. "With Routing to mode 1, another open channel has mode 1." 16. "Without Routing, the channel is closed."
-unfoldable pub channelNumber : List ℕ → (ℕ → Governing) → ℕ
-channelNumber m g =
-    cond (routes m)
-    (refuse (eqb (modeOf m) 1 && waveElsewhere g (channelOf m) 64) 15)
-    (refuse (not (g (channelOf m) .isOpen)) 16)
+-- 15. "With Routing to mode 1, another open channel has mode 1."
+unfoldable pub holderNumber : List ℕ → (ℕ → Configuration) → ℕ
+holderNumber m g =
+    refuse (routes m && (exclusiveMode (modeOf m) && heldElsewhere g (modeOf m) (channelOf m) channelCount)) 15
+
+-- 16. "Without Routing, the channel is closed."
+unfoldable pub closedNumber : List ℕ → (ℕ → Configuration) → ℕ
+closedNumber m g = refuse (not (routes m) && not (g (channelOf m) .isOpen)) 16
 
 -- "a message with Routing is governed by itself"; another by what governs its channel
-unfoldable pub governs : List ℕ → (ℕ → Governing) → Governing
-governs m g = cond (routes m) (routedBy m) (g (channelOf m))
+unfoldable pub governs : List ℕ → (ℕ → Configuration) → Configuration
+governs m g = cond (routes m) (meant (routedBy m)) (g (channelOf m))
 
--- ---- what a chunk holds (document 01, "Chunks"): a flags octet with SCM in bits 2-3, three octets that are the Duration of a wave or
--- frame, then samples or levels
-
--- type 0x01 in mode 1, 0x02 in mode 2
-abbrev pub isDrawing : ℕ → Governing → Bool
-isDrawing t v = eqb t 1 && eqb (v .mode) 1 || eqb t 2 && eqb (v .mode) 2
-
--- type 0x18 in modes 4 and 6
-abbrev pub isDimming : ℕ → Governing → Bool
-isDimming t v = eqb t 0x18 && dimming (v .mode)
-
-abbrev pub scm : List ℕ → ℕ
-scm chunk = octet chunk 0 / 16 % 4
-
-abbrev pub duration : List ℕ → ℕ
-duration chunk = octet chunk 1 * 65536 + octet chunk 2 * 256 + octet chunk 3
-
--- the samples or levels
-abbrev pub body : List ℕ → List ℕ
-body chunk = drop 4 chunk
-
--- points and lit points of a wave or frame, else 0
-unfoldable pub pointsOf : ℕ → List ℕ → Governing → ℕ
-pointsOf t chunk v = cond (isDrawing t v) (pointsIn (v .sample .roles) (body chunk)) 0
-
-unfoldable pub litPointsOf : ℕ → List ℕ → Governing → ℕ
-litPointsOf t chunk v =
-    cond (isDrawing t v) (litIn (v .sample .roles) (body chunk) (pointsIn (v .sample .roles) (body chunk))) 0
-
--- ---- checks 17 to 22: the chunk
+-- ---- checks 17 to 19: the chunk and what governs it
 
 -- 17. "The type does not go with the mode; 0x00 goes with all."
-abbrev pub typeFits : ℕ → Governing → Bool
-typeFits t v = eqb t 0 || isDrawing t v || isDimming t v
+abbrev pub typeFits : Chunk → Configuration → Bool
+typeFits k v = voidType (k .type) || isDrawing (k .type) v || isDimming (k .type) v
 
 -- 18. "A Void chunk has data, or another has under 4 octets."
-abbrev pub wrongData : ℕ → List ℕ → Bool
-wrongData t chunk = cond (eqb t 0) (ltb 0 (length chunk)) (ltb (length chunk) 4)
+abbrev pub wrongData : ℕ → ℕ → Bool
+wrongData t octets = cond (voidType t) (ltb 0 octets) (ltb octets 4)
+
+-- 19. "SCM differs from SDM."; a Void chunk has no SCM and skips it
+abbrev pub mismatched : Chunk → Configuration → Bool
+mismatched k v = not (voidType (k .type)) && not (eqb (scm k) (v .match))
+
+-- "Mode 0 skips .. 17 to 22"
+unfoldable pub matchNumber : Chunk → Configuration → ℕ
+matchNumber k v =
+    cond (voidMode (v .mode)) 0
+    (first (refuse (not (typeFits k v)) 17)
+    (first (refuse (wrongData (k .type) (length (k .octets))) 18) (refuse (mismatched k v) 19)))
+
+-- ---- checks 20 to 22: the samples or levels, and the room for them
 
 -- 20. "Samples are not whole, a wave has under 20, or a frame has exactly 1.", for samples of `width` octets in n octets
 abbrev pub wrongCount : ℕ → ℕ → ℕ → Bool
-wrongCount t width n = not (eqb (n % width) 0) || eqb t 1 && ltb (n / width) 20 || eqb t 2 && eqb (n / width) 1
+wrongCount t width n =
+    not (eqb (n % width) 0) || eqb t 1 && ltb (samplesOf width n) 20 || eqb t 2 && eqb (samplesOf width n) 1
 
 -- 20 and 22 for a wave or frame: "rows hold under points × 24 numbers"
 unfoldable pub drawNumber : ℕ → ℕ → ℕ → ℕ → ℕ
-drawNumber t width n rows = first (refuse (wrongCount t width n) 20) (refuse (ltb rows (n / width * 24)) 22)
+drawNumber t width n rows =
+    first (refuse (wrongCount t width n) 20) (refuse (ltb rows (pointsFor (samplesOf width n) * rowSize)) 22)
 
 -- 21 and 22 for dimmer levels: "the levels slice is under 1,024 octets"
 unfoldable pub dimNumber : Mapping → ℕ → ℕ → ℕ
-dimNumber mapping count levels = first (refuse (not (levelsFit mapping count)) 21) (refuse (ltb levels 1024) 22)
+dimNumber mapping count levels = first (refuse (not (levelsFit mapping count)) 21) (refuse (ltb levels placeCount) 22)
 
--- 17 to 22; "Mode 0 skips .. 17 to 22; a Void chunk that passes 18 skips 19 to 22"
-unfoldable pub chunkNumber : ℕ → List ℕ → Governing → ℕ → ℕ → ℕ
-chunkNumber t chunk v rows levels =
-    cond (eqb (v .mode) 0) 0
-    (first (refuse (not (typeFits t v)) 17)
-    (first (refuse (wrongData t chunk) 18)
-    (cond (eqb t 0) 0
-    (first (refuse (not (eqb (scm chunk) (v .match))) 19)
-    (cond (isDrawing t v)
-    (drawNumber t (length (v .sample .roles)) (length (body chunk)) rows)
-    (dimNumber (v .mapping) (length (body chunk)) levels))))))
+-- a chunk that passed 17 and is neither a wave or frame nor dimmer levels is Void or in mode 0, and skips these
+unfoldable pub contentNumber : Chunk → Configuration → Lent → ℕ
+contentNumber k v lent =
+    cond (isDrawing (k .type) v)
+    (drawNumber (k .type) (sampleOctets (v .sample)) (length (body k)) (lent .rows))
+    (cond (isDimming (k .type) v) (dimNumber (v .mapping) (length (body k)) (lent .levels)) 0)
 
--- ---- check 23: the meters
+-- ---- check 23: "A meter would pass its limit"
 
--- "adds its Duration to the first if one of its points is lit, its points to the second, its lit points to the third"
-unfoldable pub addedBy : ℕ → List ℕ → Governing → Sums
-addedBy t chunk v =
-    record {
-      lit = cond (eqb (litPointsOf t chunk v) 0) 0 (duration chunk);
-      points = pointsOf t chunk v;
-      litPoints = litPointsOf t chunk v;
-    }
+unfoldable pub meterNumber : Chunk → Configuration → Sums → ℕ
+meterNumber k v sums = refuse (overLimit (plus sums (addedBy k v))) 23
 
-abbrev pub plus : Sums → Sums → Sums
-plus s a = record { lit = s .lit + a .lit; points = s .points + a .points; litPoints = s .litPoints + a .litPoints }
+-- ---- the order of all of them, written here alone
 
--- a meter is above its limit
-abbrev pub overLimit : Sums → Bool
-overLimit s = ltb limit (s .lit) || ltb limit (s .points) || ltb limit (s .litPoints)
-
--- 23. "A meter would pass its limit"
-unfoldable pub meterNumber : ℕ → List ℕ → Governing → Sums → ℕ
-meterNumber t chunk v sums = refuse (overLimit (plus sums (addedBy t chunk v))) 23
-
--- ---- all of them
-
--- the number of message m, lent `rows` numbers and `levels` octets: 0 where it is accepted
-unfoldable pub numberOf : List ℕ → ℕ → ℕ → (ℕ → Governing) → Sums → ℕ
-numberOf m rows levels g sums =
+-- the number of message m with the slices lent: 0 where it is accepted
+unfoldable pub numberOf : List ℕ → Lent → (ℕ → Configuration) → Sums → ℕ
+numberOf m lent g sums =
     first (headerNumber m)
     (first (routeNumber m)
-    (first (channelNumber m g)
-    (first (chunkNumber (typeOf m) (dataOf m) (governs m g) rows levels)
-    (meterNumber (typeOf m) (dataOf m) (governs m g) sums))))
+    (first (holderNumber m g)
+    (first (closedNumber m g)
+    (first (matchNumber (chunkOf m) (governs m g))
+    (first (contentNumber (chunkOf m) (governs m g) lent)
+    (meterNumber (chunkOf m) (governs m g) sums))))))

@@ -1,55 +1,66 @@
 -- What a message leaves, given the number that it was answered with (document 01, "Checks, in order" and "Meters"): the reply, the
--- lent rows and levels, the meters, and what governs each channel behind it. "A refusal changes no record, meter or slice; only 19
--- closes the channel."
+-- lent slices, the meters, and what governs each channel after it. "A refusal changes no record, meter or slice; only 19 closes the
+-- channel."
 use Prim.Native.Nat.{ℕ}
 use mathlib.Core.Bool.{Bool, cond, not, _&&_, _||_}
 use mathlib.Core.List.{List}
-use lib.ListN.{length}
-use lib.IntN.{ℤ}
 use lib.Dec.{eqb}
-use Rattle.tags.specs.Rows.{drawnOver}
-use Rattle.tags.specs.Levels.{levelsAfter, levelsWritten}
-use Rattle.receiver.specs.Message.{channelOf, typeOf, timestampOf, routes, closes, dataOf}
-use Rattle.receiver.specs.Governing.{Governing, closed, routedBy}
-use Rattle.receiver.specs.Checks.{Sums, isDrawing, isDimming, body, pointsOf, litPointsOf, addedBy, plus}
+use Rattle.tags.specs.Rows.{drawnBy}
+use Rattle.tags.specs.Levels.{levelsAfter}
+use Rattle.receiver.specs.Message.{channelOf, typeOf, timestampOf, routes, closes}
+use Rattle.receiver.specs.Governing.{Governing, Configuration, closed, routedBy, meant}
+use Rattle.receiver.specs.Slices.{Slices, slices}
+use Rattle.receiver.specs.Chunk.{Chunk, chunkOf, isDrawing, isDimming, body, pointsOf, litPointsOf, levelsOf}
+use Rattle.receiver.specs.Meters.{Sums, plus, addedBy}
 use Rattle.receiver.specs.declared.Reply.{Reply}
 
--- "a refusal has 0 in all but the number"
-abbrev pub refusal : ℕ → Reply
-refusal n =
-    record { number = n; channel = record { 0 = 0 }; chunk = 0; timestamp = 0; space = 0; points = 0; «lit_points» = 0; levels = 0 }
+-- ---- the reply
 
--- the reply to message m, answered with number n and governed by v
-unfoldable pub replyOf : List ℕ → ℕ → Governing → Reply
+-- "a refusal has 0 in all but the number"
+abbrev pub bareReply : ℕ → Reply
+bareReply n =
+    record {
+      number = n;
+      channel = record { 0 = 0 };
+      «chunk_type» = 0;
+      timestamp = 0;
+      space = 0;
+      points = 0;
+      «lit_points» = 0;
+      levels = 0;
+    }
+
+-- to message m, answered with number n and governed by v
+unfoldable pub replyOf : List ℕ → ℕ → Configuration → Reply
 replyOf m n v =
     cond (eqb n 0)
     (record {
       number = 0;
       channel = record { 0 = channelOf m };
-      chunk = typeOf m;
+      «chunk_type» = typeOf m;
       timestamp = timestampOf m;
       space = v .sample .space;
-      points = pointsOf (typeOf m) (dataOf m) v;
-      «lit_points» = litPointsOf (typeOf m) (dataOf m) v;
-      levels = cond (isDimming (typeOf m) v) (levelsWritten (v .mapping) (length (body (dataOf m)))) 0;
+      points = pointsOf (chunkOf m) v;
+      «lit_points» = litPointsOf (chunkOf m) v;
+      levels = levelsOf (chunkOf m) v;
     })
-    (refusal n)
+    (bareReply n)
 
--- the lent rows
-unfoldable pub rowsAfter : List ℕ → ℕ → Governing → List ℤ → List ℤ
-rowsAfter m n v rows =
-    cond (eqb n 0 && isDrawing (typeOf m) v)
-    (drawnOver (v .sample .roles) (v .sample .waves) (body (dataOf m)) rows)
-    rows
+-- ---- the lent slices
 
--- the lent levels
-unfoldable pub levelsLeft : List ℕ → ℕ → Governing → List ℕ → List ℕ
-levelsLeft m n v levels =
-    cond (eqb n 0 && isDimming (typeOf m) v) (levelsAfter (v .mode) (v .mapping) (body (dataOf m)) levels) levels
+-- after an accepted chunk: "the decoded points or levels in their places and nothing else new"
+unfoldable pub drawn : Chunk → Configuration → Slices → Slices
+drawn k v s =
+    slices (cond (isDrawing (k .type) v) (drawnBy (v .sample) (body k) (s .rows)) (s .rows))
+    (cond (isDimming (k .type) v) (levelsAfter (v .mode) (v .mapping) (body k) (s .levels)) (s .levels))
 
--- the meters
-unfoldable pub sumsAfter : List ℕ → ℕ → Governing → Sums → Sums
-sumsAfter m n v sums = cond (eqb n 0) (plus sums (addedBy (typeOf m) (dataOf m) v)) sums
+unfoldable pub slicesAfter : List ℕ → ℕ → Configuration → Slices → Slices
+slicesAfter m n v s = cond (eqb n 0) (drawn (chunkOf m) v s) s
+
+-- ---- the meters
+
+unfoldable pub sumsAfter : List ℕ → ℕ → Configuration → Sums → Sums
+sumsAfter m n v sums = cond (eqb n 0) (plus sums (addedBy (chunkOf m) v)) sums
 
 -- ---- the channels
 
@@ -62,6 +73,6 @@ decides m n = eqb n 19 || eqb n 0 && (routes m || closes m)
 abbrev pub decided : List ℕ → ℕ → Governing
 decided m n = cond (eqb n 0 && routes m && not (closes m)) (routedBy m) closed
 
--- what governs channel c behind the message
-unfoldable pub governingAfter : List ℕ → ℕ → (ℕ → Governing) → ℕ → Governing
-governingAfter m n g c = cond (decides m n && eqb c (channelOf m)) (decided m n) (g c)
+-- what governs channel c after the message
+unfoldable pub governingAfter : List ℕ → ℕ → (ℕ → Configuration) → ℕ → Configuration
+governingAfter m n g c = cond (decides m n && eqb c (channelOf m)) (meant (decided m n)) (g c)

@@ -8,7 +8,7 @@ unfoldable pub headerOf : List ℕ → Header
 headerOf m =
     record {
       channel = record { 0 = channelOf m };
-      chunk = typeOf m;
+      «chunk_type» = typeOf m;
       timestamp = timestampOf m;
       routing = routes m;
       close = closes m;

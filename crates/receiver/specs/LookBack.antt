@@ -7,22 +7,27 @@ use mathlib.Core.Bool.{cond, _&&_}
 use mathlib.Core.List.{List, [], _∷_, map, reverse}
 use lib.Dec.{eqb}
 use Rattle.receiver.specs.Message.{channelOf}
-use Rattle.receiver.specs.Governing.{Governing, closed}
-use Rattle.receiver.specs.Checks.{Sums, sums, governs, plus, overLimit, numberOf}
-use Rattle.receiver.specs.Effects.{decides, decided, sumsAfter}
+use Rattle.receiver.specs.Governing.{Governing, Configuration, closed, meant}
+use Rattle.receiver.specs.Slices.{Slices, Lent, lengths}
+use Rattle.receiver.specs.Meters.{Sums, sums, plus, overLimit}
+use Rattle.receiver.specs.Checks.{governs, numberOf}
+use Rattle.receiver.specs.Effects.{replyOf, slicesAfter, sumsAfter, decides, decided}
+use Rattle.receiver.specs.declared.Reply.{Reply}
 
 -- a message of the list: its octets and the lengths of the slices lent with it
 pub record Offer : Type 0 where
   pub octets : List ℕ
-  pub rows : ℕ
-  pub levels : ℕ
+  pub lent : Lent
+
+abbrev pub offer : List ℕ → Lent → Offer
+offer octets lent = record { octets = octets; lent = lent }
 
 -- a message with the number that the rule gives it
 pub record Judged : Type 0 where
   pub octets : List ℕ
   pub number : ℕ
 
--- What governs channel c behind the judged messages, latest first: "the latest earlier message on its channel that was accepted with
+-- What governs channel c after the judged messages, latest first: "the latest earlier message on its channel that was accepted with
 -- Routing, accepted with Close, or refused by 19" decides; with none the channel is closed.
 unfoldable pub lookback : List Judged → ℕ → Governing
 lookback [] c = closed
@@ -31,27 +36,33 @@ lookback (j ∷ js) c =
     (decided (j .octets) (j .number))
     (lookback js c)
 
+-- what is read of it for the next message
+abbrev pub channelsBy : List Judged → ℕ → Configuration
+channelsBy js c = meant (lookback js c)
+
 -- The durations, points and lit points that the rule works out: what each accepted message adds, by what governs it.
 unfoldable pub workedOut : List Judged → Sums
 workedOut [] = sums 0 0 0
-workedOut (j ∷ js) = sumsAfter (j .octets) (j .number) (governs (j .octets) (lookback js)) (workedOut js)
+workedOut (j ∷ js) = sumsAfter (j .octets) (j .number) (governs (j .octets) (channelsBy js)) (workedOut js)
 
 -- "the running sums of the list, which are the starting readings plus what its accepted messages so far add"
 abbrev pub running : Sums → List Judged → Sums
 running start js = plus start (workedOut js)
 
--- the number of one more message behind the judged ones
+-- the number of one more message after the judged ones
 abbrev pub judge : Sums → List Judged → Offer → Judged
 judge start js o =
-    record {
-      octets = o .octets;
-      number = numberOf (o .octets) (o .rows) (o .levels) (lookback js) (running start js);
-    }
+    record { octets = o .octets; number = numberOf (o .octets) (o .lent) (channelsBy js) (running start js) }
 
 -- the whole list judged, latest first
 unfoldable pub judged : Sums → List Offer → List Judged
 judged start [] = []
 judged start (o ∷ os) = judge start (judged start os) o ∷ judged start os
+
+-- the reply to each judged message, by what governs it
+unfoldable pub repliesBy : List Judged → List Reply
+repliesBy [] = []
+repliesBy (j ∷ js) = replyOf (j .octets) (j .number) (governs (j .octets) (channelsBy js)) ∷ repliesBy js
 
 -- readings above the limit count as the 0 0 0 that start then sets
 abbrev pub startingSums : Sums → Sums
@@ -63,10 +74,28 @@ startingSums s = cond (overLimit s) (sums 0 0 0) s
 abbrev pub historyJudged : Sums → List Offer → List Judged
 historyJudged start offers = judged (startingSums start) (reverse offers)
 
--- the number of each message
+-- the reply to each message, and the number in it
+abbrev pub historyReplies : Sums → List Offer → List Reply
+historyReplies start offers = reverse (repliesBy (historyJudged start offers))
+
 abbrev pub historyNumbers : Sums → List Offer → List ℕ
-historyNumbers start offers = reverse (map (λ (j : Judged). j .number) (historyJudged start offers))
+historyNumbers start offers = map (λ (p : Reply). p .number) (historyReplies start offers)
 
 -- the meters: the starting readings plus what the rule works out
 abbrev pub historySums : Sums → List Offer → Sums
 historySums start offers = plus (startingSums start) (workedOut (historyJudged start offers))
+
+-- ---- one more message after a history: its number, its reply, and the slices as it leaves them
+
+abbrev pub nextNumber : Sums → List Offer → Offer → ℕ
+nextNumber start offers o = judge (startingSums start) (historyJudged start offers) o .number
+
+-- what governs it: the message itself, or what looking back in the list finds
+abbrev pub nextGoverned : Sums → List Offer → List ℕ → Configuration
+nextGoverned start offers m = governs m (channelsBy (historyJudged start offers))
+
+abbrev pub nextReply : Sums → List Offer → Offer → Reply
+nextReply start offers o = replyOf (o .octets) (nextNumber start offers o) (nextGoverned start offers (o .octets))
+
+abbrev pub nextSlices : Sums → List Offer → List ℕ → Slices → Slices
+nextSlices start offers m s = slicesAfter m (nextNumber start offers (offer m (lengths s))) (nextGoverned start offers m) s

@@ -1,14 +1,15 @@
 -- How the receiver's record is read, and the consistency rule of check 1 (document 01, "Checks, in order"). Only these readings of
 -- a record show in later calls: what governs each channel, the three meters, and whether it is consistent.
 use Prim.Native.Nat.{ℕ, zero, suc, _-_}
-use mathlib.Core.Bool.{Bool, true, cond, not, _&&_, _||_}
+use mathlib.Core.Bool.{Bool, true, cond, not, _&&_}
 use lib.ListN.{getD}
-use lib.Dec.{leb, eqb}
+use lib.Dec.{eqb}
 use Rattle.tags.specs.Dictionary.{noSample}
 use Rattle.tags.specs.Dimmer.{noMapping}
 use Rattle.tags.specs.Layout.{sampleOf, mappingOf, blankLayout, blankDimmer, layoutSound, dimmerSound, hasOctets}
-use Rattle.receiver.specs.Governing.{Governing, closed}
-use Rattle.receiver.specs.Checks.{Sums, overLimit}
+use Rattle.receiver.specs.Modes.{graphicMode, dimmerMode, voidMode, channelCount}
+use Rattle.receiver.specs.Governing.{Configuration}
+use Rattle.receiver.specs.Meters.{Sums, sums, overLimit}
 use Rattle.receiver.specs.declared.Config.{Config}
 use Rattle.receiver.specs.declared.Receiver.{Receiver}
 
@@ -22,33 +23,31 @@ configAt r c =
       dimmer = getD (r .dimmers) c blankDimmer;
     }
 
--- the states of modes 1 and 2, and of modes 4 and 6
-abbrev pub graphicState : ℕ → Bool
-graphicState s = eqb s 2 || eqb s 3
+-- state 0 is closed, and a mode plus 1 is open in that mode; of a closed channel the mode is read as 0
+abbrev pub openState : ℕ → Bool
+openState s = not (eqb s 0)
 
-abbrev pub dimmingState : ℕ → Bool
-dimmingState s = eqb s 5 || eqb s 7
+abbrev pub modeIn : ℕ → ℕ
+modeIn s = s - 1
 
--- what it means: state 0 is closed, and a mode plus 1 is open in that mode; the layout counts in modes 1 and 2, the mapping in 4 and 6
-unfoldable pub governingOf : Config → Governing
-governingOf k =
-    cond (eqb (k .state) 0)
-    closed
-    (record {
-      isOpen = true;
-      mode = k .state - 1;
-      match = k .«match_bits»;
-      sample = cond (graphicState (k .state)) (sampleOf (k .layout)) noSample;
-      mapping = cond (dimmingState (k .state)) (mappingOf (k .dimmer)) noMapping;
-    })
+-- what it means: the layout counts in modes 1 and 2, the mapping in 4 and 6, and nothing of a closed channel
+unfoldable pub configurationOf : Config → Configuration
+configurationOf k =
+    record {
+      isOpen = openState (k .state);
+      mode = modeIn (k .state);
+      match = cond (openState (k .state)) (k .«match_bits») 0;
+      sample = cond (graphicMode (modeIn (k .state))) (sampleOf (k .layout)) noSample;
+      mapping = cond (dimmerMode (modeIn (k .state))) (mappingOf (k .dimmer)) noMapping;
+    }
 
 -- what governs each channel by the record
-abbrev pub channelsOf : Receiver → ℕ → Governing
-channelsOf r c = governingOf (configAt r c)
+abbrev pub channelsOf : Receiver → ℕ → Configuration
+channelsOf r c = configurationOf (configAt r c)
 
 -- the three meters
 abbrev pub sumsOf : Receiver → Sums
-sumsOf r = record { lit = r .lit; points = r .points; litPoints = r .«lit_points» }
+sumsOf r = sums (r .«lit_time») (r .points) (r .«lit_points»)
 
 -- ---- check 1: the consistency rule
 
@@ -57,14 +56,14 @@ sumsOf r = record { lit = r .lit; points = r .points; litPoints = r .«lit_point
 -- other is closed or open in mode 0.
 unfoldable pub consistentAt : Config → Bool
 consistentAt k =
-    cond (graphicState (k .state))
+    cond (graphicMode (modeIn (k .state)))
     (hasOctets (k .layout) && layoutSound (k .layout))
-    (cond (dimmingState (k .state)) (dimmerSound (k .dimmer)) (leb (k .state) 1))
+    (cond (dimmerMode (modeIn (k .state))) (dimmerSound (k .dimmer)) (voidMode (modeIn (k .state))))
 
 unfoldable pub consistentUpTo : Receiver → ℕ → Bool
 consistentUpTo r zero = true
 consistentUpTo r (suc n) = consistentUpTo r n && consistentAt (configAt r n)
 
--- the meters are within their limit and each of the 64 channels is consistent
+-- the meters are within their limit and each channel is consistent
 unfoldable pub consistent : Receiver → Bool
-consistent r = not (overLimit (sumsOf r)) && consistentUpTo r 64
+consistent r = not (overLimit (sumsOf r)) && consistentUpTo r channelCount

@@ -4,17 +4,17 @@ use Prim.Native.Nat.{ℕ}
 use mathlib.Core.Bool.{cond}
 use mathlib.Core.List.{List, []}
 use lib.ListN.{length}
-use lib.Dec.{ltb, eqb}
+use lib.Dec.{eqb}
 use Rattle.tags.specs.Choice.{refuse, first}
 use Rattle.receiver.specs.Message.{topBit, dataStart, dataOf}
-use Rattle.receiver.specs.Checks.{wrongLength}
+use Rattle.receiver.specs.Checks.{wrongLength, passesEnd}
 use Rattle.receiver.specs.declared.host.Span.{Span}
 
 -- checks 2, 3 and 5; check 4, of the type, plays no part
 unfoldable pub sectionNumber : List ℕ → ℕ
 sectionNumber m =
     first (refuse (wrongLength m) 2)
-    (first (refuse (eqb (topBit m) 0) 3) (refuse (ltb (length m) (dataStart m)) 5))
+    (first (refuse (eqb (topBit m) 0) 3) (refuse (passesEnd m) 5))
 
 -- where the part starts: at octet 8, 12 or 12 + 4 × SCWC; the empty part is at the message's start
 unfoldable pub sectionStart : List ℕ → ℕ

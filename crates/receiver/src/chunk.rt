@@ -1,29 +1,118 @@
-// Checks 17 to 22 on the data section.
+// What a chunk is by its type and mode, and checks 17 to 22 on it.
 use super::Config;
 use super::header::octet;
+use super::modes::dimmer_mode;
+use super::modes::mode_in;
+use super::modes::void_mode;
 use tags::Dimmer;
 use tags::Layout;
+use tags::limits::PLACE_COUNT;
+use tags::limits::ROW;
 ghost use mathlib.Core.Path.{_≡_};
-ghost use Prim.Native.Nat.{_≤_};
+ghost use Prim.Native.Nat.{ℕ, _≤_};
 ghost use lib.ListN.{length};
-ghost use lib.Dec.{ltb};
-ghost use Rattle.tags.specs.Choice.{refuse};
+ghost use Rattle.tags.specs.Rows.{sampleOctets};
 ghost use Rattle.tags.specs.Layout.{sampleOf, mappingOf};
-ghost use Rattle.receiver.specs.Record.{governingOf};
-ghost use Rattle.receiver.specs.Checks.{drawNumber, dimNumber, chunkNumber};
+ghost use Rattle.receiver.specs.Slices.{lent};
+ghost use Rattle.receiver.specs.Chunk.{chunk, knownType, isDrawing, isDimming, body};
+ghost use Rattle.receiver.specs.Checks.{wrongData, matchNumber, drawNumber, dimNumber, contentNumber};
+ghost use Rattle.receiver.specs.Record.{configurationOf};
+ghost use Rattle.receiver.specs.Steps.{mostOctets};
 
-// Checks 20 and 22 for a wave or frame of so many octets.
-fn draw_number(kind: u8, layout: Layout, octets: usize, rows: usize) -> u8
-    requires { ⌜ octets ≤ 65280 ⌝ }
-    ensures { λ r. ⌜ r ≡ drawNumber kind (length (sampleOf layout .roles)) octets rows ⌝ }
+// The types of a chunk.
+const VOID: u8 = 0x00;
+
+const WAVE: u8 = 0x01;
+
+const FRAME: u8 = 0x02;
+
+const LEVELS: u8 = 0x18;
+
+// Check 4.
+pub(crate) fn known_type(chunk_type: u8) -> bool
+    ensures { λ r. ⌜ r ≡ knownType «chunk_type» ⌝ }
 {
-    let points = tags::rows::points(layout, octets);
+    (chunk_type == VOID) | (chunk_type == WAVE) | (chunk_type == FRAME) | (chunk_type == LEVELS)
+}
+
+// A wave in mode 1 or a frame in mode 2.
+pub(crate) fn is_drawing(chunk_type: u8, k: Config) -> bool
+    ensures { λ r. ⌜ r ≡ isDrawing «chunk_type» (configurationOf k) ⌝ }
+{
+    let mode = mode_in(k.state);
+    ((chunk_type == WAVE) & (mode == 1)) | ((chunk_type == FRAME) & (mode == 2))
+}
+
+// Dimmer levels in mode 4 or 6.
+pub(crate) fn is_dimming(chunk_type: u8, k: Config) -> bool
+    ensures { λ r. ⌜ r ≡ isDimming «chunk_type» (configurationOf k) ⌝ }
+{
+    let mode = mode_in(k.state);
+    (chunk_type == LEVELS) & dimmer_mode(mode)
+}
+
+// The samples or levels of a chunk: what stands after its four octets of header.
+pub(crate) fn body_of(octets: &[u8]) -> &[u8]
+    ensures { λ r. ⌜ ((t : ℕ) → now r ≡ body (chunk t (now (octets .entry)))) ⌝ }
+{
+    if 4 <= octets.len() {
+        &octets[4..]
+    } else {
+        &octets[..0]
+    }
+}
+
+// Check 18.
+fn wrong_data(chunk_type: u8, octets: usize) -> bool
+    ensures { λ r. ⌜ r ≡ wrongData «chunk_type» octets ⌝ }
+{
+    if chunk_type == VOID {
+        return 0 < octets;
+    }
+    octets < 4
+}
+
+// Checks 17 to 19.
+pub(crate) fn match_number(chunk_type: u8, k: Config, octets: &[u8]) -> u8
+    ensures { λ r. ⌜ r ≡ matchNumber (chunk «chunk_type» (now (octets .entry))) (configurationOf k) ⌝ }
+{
+    let mode = mode_in(k.state);
+    let ignored = void_mode(mode);
+    if ignored {
+        return 0;
+    }
+    let draws = is_drawing(chunk_type, k);
+    let dims = is_dimming(chunk_type, k);
+    let fits = (chunk_type == VOID) | draws | dims;
+    if !fits {
+        return 17;
+    }
+    let wrong = wrong_data(chunk_type, octets.len());
+    if wrong {
+        return 18;
+    }
+    let differs = !(chunk_type == VOID) & (octet(octets, 0) / 16 % 4 != k.match_bits);
+    if differs {
+        return 19;
+    }
+    0
+}
+
+// Checks 20 and 22 for a wave or frame with so many octets of samples.
+fn draw_number(chunk_type: u8, layout: Layout, octets: usize, rows: usize) -> u8
+    requires { ⌜ octets ≤ mostOctets ⌝ }
+    ensures { λ r. ⌜ r ≡ drawNumber «chunk_type» (sampleOctets (sampleOf layout)) octets rows ⌝ }
+{
+    let samples = tags::rows::samples(layout, octets);
     let whole = tags::rows::whole(layout, octets);
-    let wrong = !whole | ((kind == 1) & (points < 20)) | ((kind == 2) & (points == 1));
+    let wrong = !whole
+        | ((chunk_type == WAVE) & (samples < 20))
+        | ((chunk_type == FRAME) & (samples == 1));
     if wrong {
         return 20;
     }
-    let short = rows < points * 24;
+    let points = tags::rows::points(samples);
+    let short = rows < points * ROW;
     if short {
         return 22;
     }
@@ -38,61 +127,34 @@ fn dim_number(dimmer: Dimmer, octets: usize, levels: usize) -> u8
     if !fits {
         return 21;
     }
-    let short = levels < 1024;
+    let short = levels < PLACE_COUNT;
     if short {
         return 22;
     }
     0
 }
 
-// Checks 17 to 22.
-pub(crate) fn chunk_number(kind: u8, k: Config, chunk: &[u8], rows: usize, levels: usize) -> u8
-    requires { ⌜ length (now chunk) ≤ 65280 ⌝ }
-    ensures { λ r. ⌜ r ≡ chunkNumber kind (now (chunk .entry)) (governingOf k) rows levels ⌝ }
+// Checks 20 to 22.
+pub(crate) fn content_number(
+    chunk_type: u8,
+    k: Config,
+    octets: &[u8],
+    rows: usize,
+    levels: usize,
+) -> u8
+    requires { ⌜ length (now octets) ≤ mostOctets ⌝ }
+    ensures { λ r. ⌜ r ≡ contentNumber (chunk «chunk_type» (now (octets .entry))) (configurationOf k) (lent rows levels) ⌝ }
 {
-    let state = k.state;
-    if state == 0 {
-        return 0;
-    }
-    let mode = state - 1;
-    let ignored = mode == 0;
-    if ignored {
-        return 0;
-    }
-    let draws = ((kind == 1) & (mode == 1)) | ((kind == 2) & (mode == 2));
-    let dims = (kind == 24) & ((mode == 4) | (mode == 6));
-    let void = kind == 0;
-    let fits = void | draws | dims;
-    if !fits {
-        return 17;
-    }
-    let n = chunk.len();
-    if void {
-        return void_number(n);
-    }
-    let short = n < 4;
-    if short {
-        return 18;
-    }
-    let differs = octet(chunk, 0) / 16 % 4 != k.match_bits;
-    if differs {
-        return 19;
-    }
+    let content = body_of(octets);
+    let draws = is_drawing(chunk_type, k);
     if draws {
         let layout = k.layout;
-        return draw_number(kind, layout, n - 4, rows);
+        return draw_number(chunk_type, layout, content.len(), rows);
     }
-    let dimmer = k.dimmer;
-    dim_number(dimmer, n - 4, levels)
-}
-
-// Check 18 for a Void chunk.
-fn void_number(n: usize) -> u8
-    ensures { λ r. ⌜ r ≡ refuse (ltb 0 n) 18 ⌝ }
-{
-    let filled = 0 < n;
-    if filled {
-        return 18;
+    let dims = is_dimming(chunk_type, k);
+    if dims {
+        let dimmer = k.dimmer;
+        return dim_number(dimmer, content.len(), levels);
     }
     0
 }

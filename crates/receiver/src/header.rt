@@ -2,20 +2,23 @@
 // 0, as in the definitions.
 use super::ChannelId;
 use super::ServiceId;
+use super::chunk::known_type;
 ghost use mathlib.Core.Path.{_≡_};
 ghost use mathlib.Core.Bool.{cond};
-ghost use Prim.Native.Nat.{_+_, _*_, _<_};
-ghost use lib.ListN.{getD};
+ghost use Prim.Native.Nat.{_+_, _*_, _≤_};
+ghost use lib.ListN.{length, getD};
 ghost use Rattle.receiver.specs.Header.{headerOf};
-ghost use Rattle.receiver.specs.Message.{dataStart, dataOf};
+ghost use Rattle.receiver.specs.Message.{totalSize, dataStart, dataOf};
 ghost use Rattle.receiver.specs.Checks.{headerNumber, wrongLength};
 
-// The largest message, "above 65,280" is refused.
+// The least and the largest length of a message.
+pub(crate) const LEAST: usize = 8;
+
 const LARGEST: usize = 65280;
 
 pub struct Header {
     pub channel: ChannelId,
-    pub chunk: u8,
+    pub chunk_type: u8,
     pub timestamp: u32,
     pub routing: bool,
     pub close: bool,
@@ -39,6 +42,13 @@ fn be16(a: u8, b: u8) -> usize
     (a as usize) * 256 + (b as usize)
 }
 
+// Total Size: how many octets the message says that it has.
+pub(crate) fn total_size(m: &[u8]) -> usize
+    ensures { λ r. ⌜ r ≡ totalSize (now (m .entry)) ⌝ }
+{
+    be16(octet(m, 0), octet(m, 1))
+}
+
 // Four octets, big-endian.
 fn be32(a: u8, b: u8, c: u8, d: u8) -> u32
     ensures { λ r. ⌜ r ≡ a * 16777216 + b * 65536 + c * 256 + d ⌝ }
@@ -46,7 +56,7 @@ fn be32(a: u8, b: u8, c: u8, d: u8) -> u32
     (a as u32) * 16777216 + (b as u32) * 65536 + (c as u32) * 256 + (d as u32)
 }
 
-// Where the data section starts: behind the header, the configuration header, or the configuration words of a Routing.
+// Where the data section starts: after the header, the configuration header, or the configuration words of a Routing.
 fn start_of(configured: bool, routing: bool, words: u8) -> usize
     ensures { λ r. ⌜ r ≡ cond configured (12 + cond routing (words * 4) 0) 8 ⌝ }
 {
@@ -72,7 +82,7 @@ pub(crate) fn read(m: &[u8]) -> Header
     let timestamp = be32(octet(m, 4), octet(m, 5), octet(m, 6), octet(m, 7));
     Header {
         channel: ChannelId(content % 64),
-        chunk: octet(m, 3),
+        chunk_type: octet(m, 3),
         timestamp,
         routing,
         close,
@@ -88,8 +98,8 @@ pub(crate) fn wrong_length(m: &[u8]) -> bool
     ensures { λ r. ⌜ r ≡ wrongLength (now (m .entry)) ⌝ }
 {
     let n = m.len();
-    let size = be16(octet(m, 0), octet(m, 1));
-    (n < 8) | (LARGEST < n) | (n != size)
+    let size = total_size(m);
+    (n < LEAST) | (LARGEST < n) | (n != size)
 }
 
 // Checks 2 to 5: the number that refuses the length or the header of the message, or 0.
@@ -105,8 +115,7 @@ pub(crate) fn header_number(m: &[u8]) -> u8
     if top_clear {
         return 3;
     }
-    let kind = octet(m, 3);
-    let known = (kind <= 2) | (kind == 24);
+    let known = known_type(octet(m, 3));
     if !known {
         return 4;
     }
@@ -118,14 +127,12 @@ pub(crate) fn header_number(m: &[u8]) -> u8
     0
 }
 
-// The data section as a part of the message, from where the header says it starts; empty where that lies past the end.
-pub(crate) fn chunk_of(m: &[u8], start: usize) -> &[u8]
+// The data section as a part of the message, from where the header says it starts.
+pub(crate) fn data_of(m: &[u8], start: usize) -> &[u8]
     requires { ⌜ start ≡ dataStart (now m) ⌝ }
+    requires { ⌜ start ≤ length (now m) ⌝ }
     ensures { λ r. ⌜ now r ≡ dataOf (now (m .entry)) ⌝ }
+    ensures { λ r. ⌜ r .ptr ≡ (m .entry .ptr .0, m .entry .ptr .1 + dataStart (now (m .entry))) ⌝ }
 {
-    if start <= m.len() {
-        &m[start..]
-    } else {
-        &m[..0]
-    }
+    &m[start..]
 }

@@ -5,9 +5,9 @@ use super::Readings;
 use super::Receiver;
 use super::section;
 ghost use mathlib.Core.Path.{_≡_};
-ghost use lib.ListN.{length};
-ghost use Rattle.receiver.specs.Checks.{sums};
-ghost use Rattle.receiver.specs.Contract.{Started, messageNumber, Answered, readingsOf};
+ghost use Rattle.receiver.specs.Slices.{slices};
+ghost use Rattle.receiver.specs.Meters.{sums};
+ghost use Rattle.receiver.specs.Contract.{Started, Answered, readingsOf};
 ghost use Rattle.receiver.specs.Section.{spanOf};
 
 // Where the data section stands in a message: its first octet and its length. A part of a slice cannot be returned to C.
@@ -18,10 +18,10 @@ pub struct Span {
 }
 
 #[no_mangle]
-pub extern "C" fn mewkoast_start(lit: u64, points: u64, lit_points: u64) -> Outcome
-    ensures { λ o. ⌜ Started (sums lit points «lit_points») o ⌝ }
+pub extern "C" fn mewkoast_start(lit_time: u64, points: u64, lit_points: u64) -> Outcome
+    ensures { λ o. ⌜ Started (sums «lit_time» points «lit_points») o ⌝ }
 {
-    Receiver::start(lit, points, lit_points)
+    Receiver::start(lit_time, points, lit_points)
 }
 
 #[no_mangle]
@@ -31,7 +31,7 @@ pub extern "C" fn mewkoast_message(
     rows: &mut [i32],
     levels: &mut [u8],
 ) -> Outcome
-    ensures { λ o. ⌜ Answered (messageNumber receiver (now (octets .entry)) (length (now (rows .entry))) (length (now (levels .entry)))) receiver (now (octets .entry)) (now (rows .entry)) (now (levels .entry)) o (now (rows .exit)) (now (levels .exit)) ⌝ }
+    ensures { λ o. ⌜ Answered receiver (now (octets .entry)) (slices (now (rows .entry)) (now (levels .entry))) o (slices (now (rows .exit)) (now (levels .exit))) ⌝ }
 {
     receiver.message(octets, rows, levels)
 }

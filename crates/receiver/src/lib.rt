@@ -4,9 +4,11 @@ mod draw;
 mod header;
 pub mod host;
 mod message;
+mod modes;
 mod record;
 mod route;
 pub mod section;
+pub mod stream;
 
 use tags::Dimmer;
 use tags::Layout;
@@ -24,7 +26,7 @@ pub struct ServiceId(pub u8);
 pub struct Reply {
     pub number: u8,
     pub channel: ChannelId,
-    pub chunk: u8,
+    pub chunk_type: u8,
     pub timestamp: u32,
     pub space: u16,
     pub points: u32,
@@ -48,7 +50,7 @@ pub struct Receiver {
     pub matches: [u8; 64],
     pub layouts: [Layout; 64],
     pub dimmers: [Dimmer; 64],
-    pub lit: u64,
+    pub lit_time: u64,
     pub points: u64,
     pub lit_points: u64,
 }
@@ -63,7 +65,7 @@ pub struct Outcome {
 // The three meters as they stand: lit microseconds, points, lit points.
 #[repr(C)]
 pub struct Readings {
-    pub lit: u64,
+    pub lit_time: u64,
     pub points: u64,
     pub lit_points: u64,
 }

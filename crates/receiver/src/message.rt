@@ -4,68 +4,71 @@ use super::Outcome;
 use super::Readings;
 use super::Receiver;
 use super::Reply;
-use super::chunk::chunk_number;
-use super::draw::Drawn;
+use super::chunk::content_number;
+use super::chunk::match_number;
+use super::draw::Counts;
 use super::draw::draw;
 use super::draw::meter_number;
-use super::draw::nothing_drawn;
+use super::draw::no_counts;
 use super::header;
 use super::header::Header;
-use super::header::chunk_of;
+use super::header::data_of;
 use super::header::header_number;
+use super::modes::CLOSED;
+use super::modes::exclusive_mode;
+use super::modes::graphic_mode;
+use super::modes::mode_in;
+use super::record::bare_reply;
+use super::record::held_elsewhere;
 use super::record::over_limit;
 use super::record::readings_of;
-use super::record::refused;
 use super::record::sound_channel;
-use super::record::wave_elsewhere;
 use super::route::Found;
 use super::route::none_found;
 use super::route::route;
 use tags::Dimmer;
 use tags::Layout;
 ghost use mathlib.Core.Path.{_≡_};
-ghost use mathlib.Core.Bool.{true, false, cond};
-ghost use lib.ListN.{length};
-ghost use lib.Dec.{eqb};
-ghost use Rattle.receiver.specs.Message.{channelOf, typeOf, dataOf};
+ghost use mathlib.Core.Bool.{true, false, _&&_};
+ghost use mathlib.Core.List.{List};
+ghost use Prim.Native.Nat.{ℕ};
+ghost use Rattle.receiver.specs.Message.{channelOf};
+ghost use Rattle.receiver.specs.Modes.{exclusiveMode};
+ghost use Rattle.receiver.specs.Slices.{slices, lent, lengths};
+ghost use Rattle.receiver.specs.Chunk.{chunkOf};
+ghost use Rattle.receiver.specs.Meters.{overLimit};
+ghost use Rattle.receiver.specs.Checks.{headerNumber, contentNumber};
 ghost use Rattle.receiver.specs.Header.{headerOf};
-ghost use Rattle.receiver.specs.Checks.{sums, overLimit, headerNumber, chunkNumber};
-ghost use Rattle.receiver.specs.Effects.{refusal};
-ghost use Rattle.receiver.specs.Record.{configAt, governingOf};
-ghost use Rattle.receiver.specs.Contract.{messageNumber, Answered};
-ghost use Rattle.receiver.specs.Settle.{shut, keptConfig};
-ghost use Rattle.receiver.specs.Steps.{WrittenBy, acceptance, Shown, Governed, Judgement};
+ghost use Rattle.receiver.specs.Effects.{replyOf};
+ghost use Rattle.receiver.specs.Record.{configAt, configurationOf};
+ghost use Rattle.receiver.specs.Contract.{sumsIn, Answered};
+ghost use Rattle.receiver.specs.Steps.{countsWith, WrittenBy, Shown, Governed, Judgement, shut, keptConfig, heldStates};
 ghost use Rattle.receiver.specs.declared.Receiver.{Receiver};
 
-// Checks 6 to 16, and what governs the message: what it brings itself, or what its channel holds.
-fn governing(states: [u8; 64], held: Config, m: &[u8], h: Header) -> Found
+// Checks 6 to 14, and what governs the message: what it brings itself, or what its channel holds.
+fn governing(held: Config, m: &[u8], h: Header) -> Found
     requires { ⌜ h ≡ headerOf (now m) ⌝ }
     requires { ⌜ headerNumber (now m) ≡ 0 ⌝ }
-    ensures { λ f. ⌜ ((r : Receiver) → states ≡ r .states → held ≡ configAt r (channelOf (now (m .entry))) → Governed r (now (m .entry)) f) ⌝ }
+    ensures { λ f. ⌜ ((r : Receiver) → held ≡ configAt r (channelOf (now (m .entry))) → Governed r (now (m .entry)) f) ⌝ }
 {
     if h.routing {
         let start = h.start;
         let service = h.service;
-        let found = route(h.mode, service, h.match_bits, &m[12..start]);
-        let refused = found.number != 0;
-        if refused {
-            return found;
-        }
-        let at = h.channel.0 as usize;
-        let clash = (h.mode == 1) & wave_elsewhere(states, at);
-        if clash {
-            return none_found(15);
-        }
-        return found;
-    }
-    let closed = held.state == 0;
-    if closed {
-        return none_found(16);
+        return route(h.mode, service, h.match_bits, &m[12..start]);
     }
     Found {
         number: 0,
         config: held,
     }
+}
+
+// Check 15: another channel has the mode that the message routes its own to.
+fn has_holder(states: [u8; 64], h: Header) -> bool
+    ensures { λ r. ⌜ r ≡ (h .routing && (exclusiveMode (h .mode) && heldStates states (h .mode) (h .channel .0) 64)) ⌝ }
+{
+    let at = h.channel.0 as usize;
+    let elsewhere = held_elsewhere(states, h.mode, at);
+    h.routing & (exclusive_mode(h.mode) & elsewhere)
 }
 
 // Every check in order, of what the record shows: whether it is consistent, its states, what the message's channel holds, its meters.
@@ -80,64 +83,67 @@ fn judge(
     levels: usize,
 ) -> Found
     requires { ⌜ h ≡ headerOf (now m) ⌝ }
-    requires { ⌜ (good ≡ true → overLimit (sums (meters .lit) (meters .points) (meters .«lit_points»)) ≡ false) ⌝ }
-    ensures { λ f. ⌜ ((r : Receiver) → Shown r (now (m .entry)) good states held meters → Judgement r (now (m .entry)) rows levels f) ⌝ }
+    requires { ⌜ (good ≡ true → overLimit (sumsIn meters) ≡ false) ⌝ }
+    ensures { λ f. ⌜ ((r : Receiver) → Shown r (now (m .entry)) good states held meters → Judgement r (now (m .entry)) (lent rows levels) f) ⌝ }
 {
     if !good {
         return none_found(1);
     }
-    let frame = header_number(m);
-    let misframed = frame != 0;
-    if misframed {
-        return none_found(frame);
+    let header = header_number(m);
+    let malformed = header != 0;
+    if malformed {
+        return none_found(header);
     }
-    let found = governing(states, held, m, h);
-    let ungoverned = found.number != 0;
-    if ungoverned {
+    let found = governing(held, m, h);
+    let misrouted = found.number != 0;
+    if misrouted {
         return found;
+    }
+    let elsewhere = has_holder(states, h);
+    if elsewhere {
+        return none_found(15);
+    }
+    let closed = !h.routing & (held.state == CLOSED);
+    if closed {
+        return none_found(16);
     }
     let config = found.config;
     let start = h.start;
-    let chunk = chunk_of(m, start);
-    let number = chunk_number(h.chunk, config, chunk, rows, levels);
-    let refused = number != 0;
-    if refused {
-        return Found { number, config };
+    let octets = data_of(m, start);
+    let mismatch = match_number(h.chunk_type, config, octets);
+    let unmatched = mismatch != 0;
+    if unmatched {
+        return none_found(mismatch);
     }
-    let over = meter_number(
-        h.chunk,
-        config,
-        chunk,
-        meters.lit,
-        meters.points,
-        meters.lit_points,
-    );
-    Found {
-        number: over,
-        config,
+    let content = content_number(h.chunk_type, config, octets, rows, levels);
+    let unfit = content != 0;
+    if unfit {
+        return none_found(content);
     }
+    let number = meter_number(h.chunk_type, config, octets, meters);
+    Found { number, config }
 }
 
 // What a message answered with a number writes: nothing where that refuses it.
-fn write(number: u8, h: Header, k: Config, m: &[u8], rows: &mut [i32], levels: &mut [u8]) -> Drawn
+fn write(number: u8, h: Header, k: Config, m: &[u8], rows: &mut [i32], levels: &mut [u8]) -> Counts
     requires { ⌜ h ≡ headerOf (now m) ⌝ }
-    requires { ⌜ (number ≡ 0 → (headerNumber (now m) ≡ 0) × (chunkNumber (typeOf (now m)) (dataOf (now m)) (governingOf k) (length (now rows)) (length (now levels)) ≡ 0)) ⌝ }
-    ensures { λ d. ⌜ WrittenBy number (now (m .entry)) (governingOf k) (now (rows .entry)) (now (levels .entry)) d (now (rows .exit)) (now (levels .exit)) ⌝ }
+    requires { ⌜ (number ≡ 0 → (headerNumber (now m) ≡ 0) × (contentNumber (chunkOf (now m)) (configurationOf k) (lengths (slices (now rows) (now levels))) ≡ 0)) ⌝ }
+    ensures { λ d. ⌜ WrittenBy number (now (m .entry)) (configurationOf k) (slices (now (rows .entry)) (now (levels .entry))) d (slices (now (rows .exit)) (now (levels .exit))) ⌝ }
 {
     let refuses = number != 0;
     if refuses {
-        return nothing_drawn();
+        return no_counts();
     }
     let start = h.start;
-    let chunk = chunk_of(m, start);
-    draw(h, k, chunk, rows, levels)
+    let octets = data_of(m, start);
+    draw(h.chunk_type, k, octets, rows, levels)
 }
 
 // The space modifier in force: there is none without a dictionary.
 fn space_of(k: Config) -> u16
-    ensures { λ r. ⌜ r ≡ governingOf k .sample .space ⌝ }
+    ensures { λ r. ⌜ r ≡ configurationOf k .sample .space ⌝ }
 {
-    let graphic = (k.state == 2) | (k.state == 3);
+    let graphic = graphic_mode(mode_in(k.state));
     if graphic {
         let layout = k.layout;
         return tags::kept::space(layout);
@@ -146,22 +152,22 @@ fn space_of(k: Config) -> u16
 }
 
 // The reply to a message answered with a number.
-fn reply_of(number: u8, h: Header, k: Config, drawn: Drawn) -> Reply
-    ensures { λ r. ⌜ r ≡ cond (eqb number 0) (acceptance h k drawn) (refusal number) ⌝ }
+fn reply_of(number: u8, h: Header, k: Config, drawn: Counts) -> Reply
+    ensures { λ r. ⌜ ((m : List ℕ) → h ≡ headerOf m → drawn ≡ countsWith number (chunkOf m) (configurationOf k) → r ≡ replyOf m number (configurationOf k)) ⌝ }
 {
     let is_refusal = number != 0;
     if is_refusal {
-        return refused(number);
+        return bare_reply(number);
     }
     let channel = h.channel;
     Reply {
         number: 0,
         channel,
-        chunk: h.chunk,
+        chunk_type: h.chunk_type,
         timestamp: h.timestamp,
         space: space_of(k),
         points: drawn.points,
-        lit_points: drawn.lit,
+        lit_points: drawn.lit_points,
         levels: drawn.levels,
     }
 }
@@ -184,7 +190,7 @@ fn close(k: Config) -> Config
 {
     let layout = k.layout;
     let dimmer = k.dimmer;
-    config(0, k.match_bits, layout, dimmer)
+    config(CLOSED, k.match_bits, layout, dimmer)
 }
 
 // What the channel of a message answered with a number holds from then on; k is what governed the message.
@@ -209,15 +215,15 @@ impl Receiver {
     // One message offered with the slices lent for it: the reply, and the next receiver. Check 1 stands here, and the record is changed
     // here in place, because a function that takes the record takes a copy of it.
     pub fn message(self, octets: &[u8], rows: &mut [i32], levels: &mut [u8]) -> Outcome
-        ensures { λ o. ⌜ Answered (messageNumber self (now (octets .entry)) (length (now (rows .entry))) (length (now (levels .entry)))) self (now (octets .entry)) (now (rows .entry)) (now (levels .entry)) o (now (rows .exit)) (now (levels .exit)) ⌝ }
+        ensures { λ o. ⌜ Answered self (now (octets .entry)) (slices (now (rows .entry)) (now (levels .entry))) o (slices (now (rows .exit)) (now (levels .exit))) ⌝ }
     {
-        let mut ok = !over_limit(self.lit, self.points, self.lit_points);
+        let mut ok = !over_limit(self.lit_time, self.points, self.lit_points);
         let mut passed: usize = 0;
         while passed < 64 {
             let c = passed;
             passed += 1;
             let state = self.states[c];
-            let open = state != 0;
+            let open = state != CLOSED;
             if open {
                 let k = config(state, self.matches[c], self.layouts[c], self.dimmers[c]);
                 ok = ok & sound_channel(k);
@@ -228,7 +234,7 @@ impl Receiver {
         let state = self.states[at];
         let held = config(state, self.matches[at], self.layouts[at], self.dimmers[at]);
         let states = self.states;
-        let sums = readings_of(self.lit, self.points, self.lit_points);
+        let sums = readings_of(self.lit_time, self.points, self.lit_points);
         let found = judge(ok, states, held, sums, h, octets, rows.len(), levels.len());
         let number = found.number;
         let k = found.config;
@@ -241,9 +247,9 @@ impl Receiver {
         receiver.matches[at] = kept.match_bits;
         receiver.layouts[at] = layout;
         receiver.dimmers[at] = dimmer;
-        receiver.lit = receiver.lit + drawn.time;
+        receiver.lit_time = receiver.lit_time + drawn.lit_time;
         receiver.points = receiver.points + drawn.points as u64;
-        receiver.lit_points = receiver.lit_points + drawn.lit as u64;
+        receiver.lit_points = receiver.lit_points + drawn.lit_points as u64;
         let reply = reply_of(number, h, k, drawn);
         Outcome { receiver, reply }
     }

@@ -1,32 +1,23 @@
 // Checks 6 to 14: what a message with Routing brings.
 use super::Config;
 use super::ServiceId;
+use super::modes::CLOSED;
+use super::modes::dimmer_mode;
+use super::modes::graphic_mode;
+use super::modes::known_mode;
+use super::modes::service_fits;
 use tags::Dimmer;
 use tags::Layout;
 use tags::kept::no_dimmer;
 use tags::kept::no_layout;
 ghost use mathlib.Core.Path.{_≡_};
 ghost use Prim.Native.Nat.{_+_, _≤_};
-ghost use Rattle.receiver.specs.Checks.{knownMode, serviceFits};
 ghost use Rattle.receiver.specs.Steps.{RoutedTo};
 
 // A number, and where it is 0 what governs.
 pub struct Found {
     pub number: u8,
     pub config: Config,
-}
-
-fn known_mode(mode: u8) -> bool
-    ensures { λ r. ⌜ r ≡ knownMode mode ⌝ }
-{
-    (mode == 0) | ((mode == 1) | (mode == 2)) | ((mode == 4) | (mode == 6))
-}
-
-fn service_fits(mode: u8, service: ServiceId) -> bool
-    ensures { λ r. ⌜ r ≡ serviceFits mode (service .0) ⌝ }
-{
-    let s = service.0;
-    (s == 0) | ((s == 1) & !(mode == 6)) | ((s == 2) & ((mode == 6) | (mode == 0)))
 }
 
 // A refusal, with nothing that governs.
@@ -36,7 +27,7 @@ pub(crate) fn none_found(number: u8) -> Found
     let layout = no_layout();
     let dimmer = no_dimmer();
     let config = Config {
-        state: 0,
+        state: CLOSED,
         match_bits: 0,
         layout,
         dimmer,
@@ -70,13 +61,13 @@ pub(crate) fn route(mode: u8, service: ServiceId, match_bits: u8, tags: &[u8]) -
     if !fits {
         return none_found(7);
     }
-    let graphic = (mode == 1) | (mode == 2);
+    let graphic = graphic_mode(mode);
     if graphic {
         let checked = tags::dictionary::check(mode, tags);
         let layout = checked.layout;
         return routed_to(checked.number, mode, match_bits, layout, no_dimmer());
     }
-    let dims = (mode == 4) | (mode == 6);
+    let dims = dimmer_mode(mode);
     if dims {
         let mapped = tags::dimming::check(tags);
         let dimmer = mapped.dimmer;

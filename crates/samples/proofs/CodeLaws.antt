@@ -10,6 +10,7 @@ use lib.Seq.{drop-cons, getD-take, length-take-le, take-suc-set}
 use lib.IntN.{ℤ}
 use lib.Dec.{ltb, eqb}
 use borrow.Author.Tests.{lt-ltb, le-ltb, eq-eqb, ne-eqb}
+use Rattle.samples.specs.Limits.{rowSize}
 use Rattle.samples.specs.Roles.{firstOf, precisionOf}
 use Rattle.samples.specs.Codes.{codeOf, slotIn, varies, codesIn, putAll, someLit, Slotted, Listed}
 
@@ -39,7 +40,7 @@ module _ (places : List ℕ) (width : ℕ) (waves : List ℕ) (start i : ℕ) wh
   unfolding codesIn
   codes-same e = rw (add-one i, e) (append-nil _)
 
--- one code more behind those that are there
+-- one code more after those that are there
 pub take-more : (list done codes : List ℕ) (n code : ℕ) → n < length list → take n list ≡ done ++ codes → take (n + 1) (set list n code) ≡ done ++ (codes ++ (code ∷ []))
 take-more list done codes n code h e =
     rw (add-one n, take-suc-set list n code h, e) (append-assoc done codes (code ∷ []))
@@ -79,9 +80,9 @@ listed-length : (codes : List ℕ) (n : ℕ) → Listed codes n → length (take
 listed-length codes n l = length-take-le n codes (omega (arith, l .sized, l .within))
 
 -- a code that a loop reads has a slot of the row
-pub slotted-at : (codes : List ℕ) (n j : ℕ) → Listed codes n → j < n → slotIn (getD codes j 0) < 24
+pub slotted-at : (codes : List ℕ) (n j : ℕ) → Listed codes n → j < n → slotIn (getD codes j 0) < rowSize
 slotted-at codes n j l h =
-    let s : slotIn (getD (take n codes) j 0) < 24 = l .slotted j (rw (listed-length codes n l) h) in
+    let s : slotIn (getD (take n codes) j 0) < rowSize = l .slotted j (rw (listed-length codes n l) h) in
     rw (getD-take n codes j 0 h) at s
 
 -- and so has each of the first of them

@@ -1,4 +1,4 @@
--- The codes of a chunk in one array, the kinds one behind the other.
+-- The codes of a chunk in one array, the kinds one after the other.
 use Prim.Native.Nat.{ℕ, _≤_}
 use native.Mathlib.Omega.{arith}
 use mathlib.Core.Path.{_≡_, refl, sym, _∙_, ap}
@@ -7,7 +7,7 @@ use lib.ListN.{length, take, drop}
 use lib.Seq.{length-take-le, drop-at, take-take, take-append-le}
 use Rattle.samples.specs.Codes.{slice}
 
--- what is added behind the first n codes leaves those as they were, and is what stands behind them
+-- what is added after the first n codes leaves those as they were, and is what stands after them
 module _ (old new more : List ℕ) (n r : ℕ) (e : take r new ≡ take n old ++ more) (h : n ≤ length old) where
   slice-new : slice n r new ≡ more
   slice-new = rw e (drop-at (take n old) more n (length-take-le n old h))

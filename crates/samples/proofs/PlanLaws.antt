@@ -10,14 +10,15 @@ use lib.ListN.{length, getD, set, length-append, length-take, List·getD-append}
 use lib.Seq.{getD-set-same, getD-set-other, getD-at, ext-getD}
 use lib.IntN.{ℤ, pos}
 use lib.Dec.{eqb}
-use Rattle.samples.specs.Roles.{hintOf, placeOf, has}
+use Rattle.samples.specs.Limits.{octetLimit, colourLimit, rowSize}
+use Rattle.samples.specs.Roles.{hintOf, has}
 use Rattle.samples.specs.Row.{hintPlace, hintIn, colourScale, intensityScale, colourOf, slotOf, slotsOf, rowOf, litAmong, litOf}
 use Rattle.samples.specs.Points.{rowsOf, litIn}
-use Rattle.samples.specs.Codes.{codeOf, slotIn, scaledIn, signedIn, numberIn, varies, codesIn, putAll, someLit, restOf, Plan, shuttered, rowBy, litBy, part, rowsBy, countBy}
+use Rattle.samples.specs.Codes.{Tabled, codeOf, slotIn, scaledIn, signedIn, numberIn, varies, codesIn, putAll, someLit, restOf, Plan, shuttered, rowBy, litBy, part, rowsBy, countBy}
 use Rattle.samples.proofs.PointLaws.{putAll-length, rowBy-length}
 use Rattle.samples.proofs.SlotLaws.{slot-is, coordinate-is, brush-is, wave-is, colour-is, colour-at, intensity-is, colour-none, rest-is, by-slot}
 
--- ---- lists one behind the other
+-- ---- lists one after the other
 
 pub putAll-append : (g : ℕ → ℤ) (xs ys : List ℕ) (row : List ℤ) → putAll g (xs ++ ys) row ≡ putAll g ys (putAll g xs row)
 unfolding putAll
@@ -59,7 +60,7 @@ Right roles waves sample row k = getD row k (pos 0) ≡ slotOf roles waves sampl
 abbrev Among : List ℕ → ℕ → List ℕ → ℕ → ℕ → ℕ → Type 0
 Among places width waves start n k = (start ≤ k) × (k < start + n) × (varies places width waves k ≡ true)
 
-module _ (roles places waves sample : List ℕ) (b : length roles ≤ 32) (t : (k : ℕ) → k < 128 → getD places k 0 ≡ placeOf k roles) where
+module _ (roles places waves sample : List ℕ) (b : length roles ≤ octetLimit) (t : Tabled places roles) where
   abbrev gathered : ℕ → ℕ → List ℕ
   gathered = codesIn places (length roles) waves
 
@@ -75,9 +76,9 @@ module _ (roles places waves sample : List ℕ) (b : length roles ≤ 32) (t : (
   skip row start n k e (inr a) = narrow row start n k (unlike start n k e (a .2)) (inr a)
 
   -- where the number stored for each code is right, the slots of the list are right afterwards, and those that were right before
-  module _ (g : ℕ → ℤ) (row : List ℤ) (l : length row ≡ 24) (start : ℕ) where
+  module _ (g : ℕ → ℤ) (row : List ℤ) (l : length row ≡ rowSize) (start : ℕ) where
     -- slot `start + n` is the last of the list, or does not differ
-    put-last : (n k : ℕ) → start + n < 24 → g (codeOf places (start + n)) ≡ slotOf roles waves sample (start + n) → Dec (k ≡ start + n) → ((k ≡ start + n → ⊥) → Right roles waves sample (putAll g (gathered start n) row) k) → Right roles waves sample (putAll g (gathered start n ++ (codeOf places (start + n) ∷ [])) row) k
+    put-last : (n k : ℕ) → start + n < rowSize → g (codeOf places (start + n)) ≡ slotOf roles waves sample (start + n) → Dec (k ≡ start + n) → ((k ≡ start + n → ⊥) → Right roles waves sample (putAll g (gathered start n) row) k) → Right roles waves sample (putAll g (gathered start n ++ (codeOf places (start + n) ∷ [])) row) k
     unfolding putAll
     put-last n k h e (yes q) ih =
         let r = putAll g (gathered start n) row in
@@ -88,7 +89,7 @@ module _ (roles places waves sample : List ℕ) (b : length roles ≤ 32) (t : (
         rw (putAll-append g (gathered start n) (codeOf places (start + n) ∷ []) row, slot-is roles places sample b t (start + n) h)
         (getD-set-other r (start + n) k _ (pos 0) ne ∙ ih ne)
 
-    put-right : (n : ℕ) → start + n ≤ 24 → ((k : ℕ) → Among places (length roles) waves start n k → g (codeOf places k) ≡ slotOf roles waves sample k) → (k : ℕ) → (Right roles waves sample row k ⊎ Among places (length roles) waves start n k) → Right roles waves sample (putAll g (gathered start n) row) k
+    put-right : (n : ℕ) → start + n ≤ rowSize → ((k : ℕ) → Among places (length roles) waves start n k → g (codeOf places k) ≡ slotOf roles waves sample k) → (k : ℕ) → (Right roles waves sample row k ⊎ Among places (length roles) waves start n k) → Right roles waves sample (putAll g (gathered start n) row) k
     unfolding putAll codesIn
     put-right zero h ok k (inl r) = r
     put-right zero h ok k (inr a) = absurd (omega arith)
@@ -105,13 +106,13 @@ module _ (roles places waves sample : List ℕ) (b : length roles ≤ 32) (t : (
 
 -- the plan is that of the roles and the wavelengths
 pub record Planned (p : Plan) (roles places waves : List ℕ) : Type 0 where
-  pub short : length roles ≤ 32
-  pub table : (k : ℕ) → k < 128 → getD places k 0 ≡ placeOf k roles
-  pub sized : length (p .template) ≡ 24
-  pub rests : (k : ℕ) → k < 24 → getD (p .template) k (pos 0) ≡ restOf (p .shutter) waves k
+  pub short : length roles ≤ octetLimit
+  pub table : Tabled places roles
+  pub sized : length (p .template) ≡ rowSize
+  pub rests : (k : ℕ) → k < rowSize → getD (p .template) k (pos 0) ≡ restOf (p .shutter) waves k
   pub coordinates : p .coordinates ≡ codesIn places (length roles) waves 0 5
-  pub plains : p .plains ≡ codesIn places (length roles) waves 7 1 ++ codesIn places (length roles) waves 16 8
-  pub colours : p .colours ≡ codesIn places (length roles) waves 8 8
+  pub plains : p .plains ≡ codesIn places (length roles) waves 7 1 ++ codesIn places (length roles) waves 16 colourLimit
+  pub colours : p .colours ≡ codesIn places (length roles) waves 8 colourLimit
   pub intensity : p .intensity ≡ codesIn places (length roles) waves 6 1
   pub hint : p .hint ≡ hintPlace roles
   pub shutter : p .shutter ≡ has roles (hintOf 1)
@@ -127,10 +128,10 @@ module _ (p : Plan) (roles places waves : List ℕ) (d : Planned p roles places 
   row₂ = putAll (numberIn 0 sample) (codesIn places W waves 7 1) row₁
 
   abbrev row₃ : List ℤ
-  row₃ = putAll (numberIn 0 sample) (codesIn places W waves 16 8) row₂
+  row₃ = putAll (numberIn 0 sample) (codesIn places W waves 16 colourLimit) row₂
 
   abbrev row₄ : List ℤ
-  row₄ = putAll (numberIn (colourScale (hintIn roles sample) * 2) sample) (codesIn places W waves 8 8) row₃
+  row₄ = putAll (numberIn (colourScale (hintIn roles sample) * 2) sample) (codesIn places W waves 8 colourLimit) row₃
 
   abbrev row₅ : List ℤ
   row₅ = putAll (numberIn (intensityScale (hintIn roles sample) * 2) sample) (codesIn places W waves 6 1) row₄
@@ -146,12 +147,12 @@ module _ (p : Plan) (roles places waves : List ℕ) (d : Planned p roles places 
   right₂ = put-right roles places waves sample (d .short) (d .table) (numberIn 0 sample) row₁ (simp putAll-length (d .sized)) 7 1 (omega arith)
       (λ k a. let e : k ≡ 7 = omega arith in rw e (brush-is roles places sample (d .short) (d .table) waves))
 
-  right₃ : (k : ℕ) → Source row₂ 16 8 k → Right roles waves sample row₃ k
-  right₃ = put-right roles places waves sample (d .short) (d .table) (numberIn 0 sample) row₂ (simp putAll-length (d .sized)) 16 8 (omega arith)
+  right₃ : (k : ℕ) → Source row₂ 16 colourLimit k → Right roles waves sample row₃ k
+  right₃ = put-right roles places waves sample (d .short) (d .table) (numberIn 0 sample) row₂ (simp putAll-length (d .sized)) 16 colourLimit (omega arith)
       (λ k a. wave-is roles places sample (d .short) (d .table) waves k (a .0) (omega arith) (a .2))
 
-  right₄ : (k : ℕ) → Source row₃ 8 8 k → Right roles waves sample row₄ k
-  right₄ = put-right roles places waves sample (d .short) (d .table) _ row₃ (simp putAll-length (d .sized)) 8 8 (omega arith)
+  right₄ : (k : ℕ) → Source row₃ 8 colourLimit k → Right roles waves sample row₄ k
+  right₄ = put-right roles places waves sample (d .short) (d .table) _ row₃ (simp putAll-length (d .sized)) 8 colourLimit (omega arith)
       (λ k a. colour-at roles places sample (d .short) (d .table) waves k (a .0) (omega arith))
 
   right₅ : (k : ℕ) → Source row₄ 6 1 k → Right roles waves sample row₅ k
@@ -172,7 +173,7 @@ module _ (p : Plan) (roles places waves : List ℕ) (d : Planned p roles places 
   then₁ k r = then₂ k (right₂ k (inl r))
 
   -- and one that differs is made right by the list of its kind
-  made : (k : ℕ) → k < 24 → (k ≡ 5 → ⊥) → varies places W waves k ≡ true → Right roles waves sample row₅ k
+  made : (k : ℕ) → k < rowSize → (k ≡ 5 → ⊥) → varies places W waves k ≡ true → Right roles waves sample row₅ k
   made =
       by-slot (λ k. (k ≡ 5 → ⊥) → varies places W waves k ≡ true → Right roles waves sample row₅ k)
       (λ k h ne v. then₁ k (right₁ k (inr (omega arith, omega arith, v))))
@@ -182,7 +183,7 @@ module _ (p : Plan) (roles places waves : List ℕ) (d : Planned p roles places 
       (λ k u h ne v. then₄ k (right₄ k (inr (u, omega arith, v))))
       (λ k u h ne v. then₃ k (right₃ k (inr (u, omega arith, v))))
 
-  right : (k : ℕ) → k < 24 → (k ≡ 5 → p .shutter ≡ false) → Right roles waves sample row₅ k
+  right : (k : ℕ) → k < rowSize → (k ≡ 5 → p .shutter ≡ false) → Right roles waves sample row₅ k
   right k h c = go (ℕ-discrete k 5) (varies places W waves k) refl
     where
       rest : ((k ≡ 5 → ⊥) → varies places W waves k ≡ false) → Right roles waves sample row₅ k
@@ -194,7 +195,7 @@ module _ (p : Plan) (roles places waves : List ℕ) (d : Planned p roles places 
       go (no ne) false e = rest (λ x. e)
 
   -- the shutter
-  shut : (b : Bool) → p .shutter ≡ b → (k : ℕ) → k < 24 → Right roles waves sample (shuttered b (hintIn roles sample) row₅) k
+  shut : (b : Bool) → p .shutter ≡ b → (k : ℕ) → k < rowSize → Right roles waves sample (shuttered b (hintIn roles sample) row₅) k
   unfolding shuttered slotOf
   shut false e k h = right k h (λ q. e)
   shut true e k h = go (ℕ-discrete k 5)
@@ -209,25 +210,25 @@ module _ (p : Plan) (roles places waves : List ℕ) (d : Planned p roles places 
   unplanned : rowBy p sample ≡ shuttered (p .shutter) (hintIn roles sample) row₅
   unfolding rowBy
   unplanned =
-      rw (d .hint, d .coordinates, d .plains, d .colours, d .intensity, putAll-append (numberIn 0 sample) (codesIn places W waves 7 1) (codesIn places W waves 16 8) row₁)
+      rw (d .hint, d .coordinates, d .plains, d .colours, d .intensity, putAll-append (numberIn 0 sample) (codesIn places W waves 7 1) (codesIn places W waves 16 colourLimit) row₁)
       refl
 
   pub rowBy-is : rowBy p sample ≡ rowOf roles waves sample
   rowBy-is =
       let l = rowBy-length p (d .sized) sample in
-      ext-getD (pos 0) (rowBy p sample) (rowOf roles waves sample) (l ∙ sym (slotsOf-length roles waves sample 24))
+      ext-getD (pos 0) (rowBy p sample) (rowOf roles waves sample) (l ∙ sym (slotsOf-length roles waves sample rowSize))
       (λ k h.
-      let b : k < 24 = omega arith in
-      rw unplanned (shut (p .shutter) refl k b) ∙ sym (slotsOf-at roles waves sample 24 k b))
+      let b : k < rowSize = omega arith in
+      rw unplanned (shut (p .shutter) refl k b) ∙ sym (slotsOf-at roles waves sample rowSize k b))
 
 -- ---- lit
 
-module _ (roles places waves : List ℕ) (b : length roles ≤ 32) (t : (k : ℕ) → k < 128 → getD places k 0 ≡ placeOf k roles) where
+module _ (roles places waves : List ℕ) (b : length roles ≤ octetLimit) (t : Tabled places roles) where
   module _ (sample : List ℕ) (s : length sample ≤ length roles) where
     abbrev scaled : ℕ → ℕ
     scaled = scaledIn (colourScale (hintIn roles sample) * 2) sample
 
-    someLit-is : (n : ℕ) → n ≤ 8 → someLit scaled (codesIn places (length roles) waves 8 n) ≡ litAmong roles sample n
+    someLit-is : (n : ℕ) → n ≤ colourLimit → someLit scaled (codesIn places (length roles) waves 8 n) ≡ litAmong roles sample n
     unfolding someLit codesIn litAmong
     someLit-is zero h = refl
     someLit-is (suc n) h =
@@ -238,9 +239,9 @@ module _ (roles places waves : List ℕ) (b : length roles ≤ 32) (t : (k : ℕ
         go true e = rw (colour-is roles places sample b t waves n (omega arith)) (or-false _)
         go false e = rw (colour-none roles places sample b t waves s (has roles (hintOf 1)) refl n (omega arith) e) refl
 
-    pub litBy-is : (colours : List ℕ) (hint : ℕ) → colours ≡ codesIn places (length roles) waves 8 8 → hint ≡ hintPlace roles → litBy colours hint sample ≡ litOf roles sample
+    pub litBy-is : (colours : List ℕ) (hint : ℕ) → colours ≡ codesIn places (length roles) waves 8 colourLimit → hint ≡ hintPlace roles → litBy colours hint sample ≡ litOf roles sample
     unfolding litBy
-    litBy-is colours hint ec eh = rw (ec, eh) (someLit-is 8 (omega arith))
+    litBy-is colours hint ec eh = rw (ec, eh) (someLit-is colourLimit (omega arith))
 
 -- ---- all points
 
@@ -253,7 +254,7 @@ rowsBy-is p roles places waves octets d zero = refl
 rowsBy-is p roles places waves octets d (suc n) =
     rw (rowsBy-is p roles places waves octets d n, rowBy-is p roles places waves d (part (length roles) octets n) (part-short roles octets n)) refl
 
-pub countBy-is : (roles places waves octets : List ℕ) (colours : List ℕ) (hint : ℕ) → length roles ≤ 32 → ((k : ℕ) → k < 128 → getD places k 0 ≡ placeOf k roles) → colours ≡ codesIn places (length roles) waves 8 8 → hint ≡ hintPlace roles → (n : ℕ) → countBy colours hint (length roles) octets n ≡ litIn roles octets n
+pub countBy-is : (roles places waves octets : List ℕ) (colours : List ℕ) (hint : ℕ) → length roles ≤ octetLimit → Tabled places roles → colours ≡ codesIn places (length roles) waves 8 colourLimit → hint ≡ hintPlace roles → (n : ℕ) → countBy colours hint (length roles) octets n ≡ litIn roles octets n
 unfolding countBy litIn
 countBy-is roles places waves octets colours hint b t ec eh zero = refl
 countBy-is roles places waves octets colours hint b t ec eh (suc n) =

@@ -10,6 +10,7 @@ use lib.ListN.{length, take, drop, set, length-append, length-set}
 use lib.Seq.{take-at, drop-at, drop-drop}
 use lib.IntN.{ℤ}
 use borrow.Rule.Slice.PartMut.{putMid}
+use Rattle.samples.specs.Limits.{rowSize}
 use Rattle.samples.specs.Codes.{Plan, putAll, slotIn, shuttered, rowBy, litBy, part, rowsBy, countBy}
 
 -- ---- where they lie
@@ -37,16 +38,16 @@ unfolding shuttered
 shuttered-length true h row = length-set row 5 _
 shuttered-length false h row = refl
 
-module _ (p : Plan) (l : length (p .template) ≡ 24) where
-  pub rowBy-length : (sample : List ℕ) → length (rowBy p sample) ≡ 24
+module _ (p : Plan) (l : length (p .template) ≡ rowSize) where
+  pub rowBy-length : (sample : List ℕ) → length (rowBy p sample) ≡ rowSize
   unfolding rowBy
   rowBy-length sample = simp (shuttered-length, putAll-length) l
 
-  rowsBy-length : (w : ℕ) (octets : List ℕ) (n : ℕ) → length (rowsBy p w octets n) ≡ n * 24
+  rowsBy-length : (w : ℕ) (octets : List ℕ) (n : ℕ) → length (rowsBy p w octets n) ≡ n * rowSize
   unfolding rowsBy
   rowsBy-length w octets zero = refl
   rowsBy-length w octets (suc n) =
-      rw (length-append, rowsBy-length w octets n, rowBy-length (part w octets n)) (sym (suc-mul n 24))
+      rw (length-append, rowsBy-length w octets n, rowBy-length (part w octets n)) (sym (suc-mul n rowSize))
 
   -- ---- one point more
 
@@ -54,21 +55,21 @@ module _ (p : Plan) (l : length (p .template) ≡ 24) where
   unfolding rowsBy
   rowsBy-more w octets n = rw (add-one n) refl
 
-  pub rows-more : (w i start : ℕ) (octets : List ℕ) (rows₀ rows row : List ℤ) → start ≡ i * 24 → row ≡ rowBy p (part w octets i) → rows ≡ rowsBy p w octets i ++ drop (i * 24) rows₀ → putMid start (start + 24 - start) rows row ≡ rowsBy p w octets (i + 1) ++ drop ((i + 1) * 24) rows₀
+  pub rows-more : (w i start : ℕ) (octets : List ℕ) (rows₀ rows row : List ℤ) → start ≡ i * rowSize → row ≡ rowBy p (part w octets i) → rows ≡ rowsBy p w octets i ++ drop (i * rowSize) rows₀ → putMid start (start + rowSize - start) rows row ≡ rowsBy p w octets (i + 1) ++ drop ((i + 1) * rowSize) rows₀
   rows-more w i start octets rows₀ rows row e er q =
-      let d : start + 24 - start ≡ 24 = omega arith in
+      let d : start + rowSize - start ≡ rowSize = omega arith in
       rw (
         d,
         e,
         q,
-        times-more i 24,
+        times-more i rowSize,
         rowsBy-more w octets i,
         er,
-        take-at (rowsBy p w octets i) (drop (i * 24) rows₀) (i * 24) (rowsBy-length w octets i),
-        drop-at (rowsBy p w octets i) (drop (i * 24) rows₀) (i * 24) (rowsBy-length w octets i),
-        drop-drop 24 (i * 24) rows₀,
+        take-at (rowsBy p w octets i) (drop (i * rowSize) rows₀) (i * rowSize) (rowsBy-length w octets i),
+        drop-at (rowsBy p w octets i) (drop (i * rowSize) rows₀) (i * rowSize) (rowsBy-length w octets i),
+        drop-drop rowSize (i * rowSize) rows₀,
       )
-      (sym (append-assoc (rowsBy p w octets i) (rowBy p (part w octets i)) (drop (i * 24 + 24) rows₀)))
+      (sym (append-assoc (rowsBy p w octets i) (rowBy p (part w octets i)) (drop (i * rowSize + rowSize) rows₀)))
 
 pub countBy-more : (colours : List ℕ) (hint w i b lit : ℕ) (octets : List ℕ) (f : Bool) → f ≡ litBy colours hint (part w octets i) → b ≡ cond f 1 0 → lit ≡ countBy colours hint w octets i → lit + b ≡ countBy colours hint w octets (i + 1)
 unfolding countBy

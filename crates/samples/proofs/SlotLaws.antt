@@ -12,9 +12,10 @@ use lib.Pow.{pow-add}
 use lib.IntN.{pos}
 use lib.Dec.{ltb}
 use borrow.Author.Tests.{lt-ltb, le-ltb, eq-eqb, ne-eqb, ltb-false}
+use Rattle.samples.specs.Limits.{octetLimit, colourLimit, rowSize}
 use Rattle.samples.specs.Roles.{firstOf, precisionOf, hintOf, placeOf, has}
 use Rattle.samples.specs.Row.{valueOf, signed, hintIn, colourScale, intensityScale, colourOf, intensityOf, waveOf, slotOf}
-use Rattle.samples.specs.Codes.{codeOf, slotIn, firstIn, precisionIn, valueIn, scaledIn, signedIn, numberIn, varies, restOf}
+use Rattle.samples.specs.Codes.{tableSize, Tabled, codeOf, slotIn, firstIn, precisionIn, valueIn, scaledIn, signedIn, numberIn, varies, restOf}
 use Rattle.samples.proofs.RoleLaws.{placeOf-le}
 use Rattle.samples.proofs.CodeLaws.{varies-early, varies-late, varies-fixed}
 
@@ -42,7 +43,7 @@ neither true b e = (e, (cc))
 
 -- ---- by the kind of a slot
 
-pub by-slot : (P : ℕ → Type 0) → ((k : ℕ) → k < 5 → P k) → P 5 → P 6 → P 7 → ((k : ℕ) → 8 ≤ k → k < 16 → P k) → ((k : ℕ) → 16 ≤ k → k < 24 → P k) → (k : ℕ) → k < 24 → P k
+pub by-slot : (P : ℕ → Type 0) → ((k : ℕ) → k < 5 → P k) → P 5 → P 6 → P 7 → ((k : ℕ) → 8 ≤ k → k < 16 → P k) → ((k : ℕ) → 16 ≤ k → k < rowSize → P k) → (k : ℕ) → k < rowSize → P k
 by-slot P a b c d e f k h = go (decLt k 5) (ℕ-discrete k 5) (ℕ-discrete k 6) (ℕ-discrete k 7) (decLt k 16)
   where
     go : Dec (k < 5) → Dec (k ≡ 5) → Dec (k ≡ 6) → Dec (k ≡ 7) → Dec (k < 16) → P k
@@ -89,14 +90,14 @@ module _ (flag : Bool) (waves : List ℕ) (k : ℕ) where
 
 -- ---- values by a table of places
 
-module _ (roles places sample : List ℕ) (b : length roles ≤ 32) (t : (k : ℕ) → k < 128 → getD places k 0 ≡ placeOf k roles) where
-  place-small : (k : ℕ) → k < 128 → getD places k 0 < 256
+module _ (roles places sample : List ℕ) (b : length roles ≤ octetLimit) (t : Tabled places roles) where
+  place-small : (k : ℕ) → k < tableSize → getD places k 0 < 256
   place-small k h = omega (arith, t k h, placeOf-le k roles)
 
-  pub slot-is : (s : ℕ) → s < 24 → slotIn (codeOf places s) ≡ s
+  pub slot-is : (s : ℕ) → s < rowSize → slotIn (codeOf places s) ≡ s
   slot-is s h = code-slot s (getD places (firstOf s) 0) (getD places (precisionOf s) 0) (omega arith)
 
-  pub value-is : (s : ℕ) → s < 24 → valueIn sample (codeOf places s) ≡ valueOf roles sample s
+  pub value-is : (s : ℕ) → s < rowSize → valueIn sample (codeOf places s) ≡ valueOf roles sample s
   value-is s h =
       let f = place-small (firstOf s) (omega arith) in
       rw (
@@ -109,11 +110,11 @@ module _ (roles places sample : List ℕ) (b : length roles ≤ 32) (t : (k : �
 
   -- no octet, and so nothing
   module _ (l : length sample ≤ length roles) where
-    past : (k : ℕ) → k < 128 → ltb (getD places k 0) (length roles) ≡ false → getD sample (placeOf k roles) 0 ≡ 0
+    past : (k : ℕ) → k < tableSize → ltb (getD places k 0) (length roles) ≡ false → getD sample (placeOf k roles) 0 ≡ 0
     past k h e =
         List·getD-eq-default sample 0 {n = placeOf k roles} (omega (arith, ltb-false (getD places k 0) (length roles) e, t k h))
 
-    pub value-none : (s : ℕ) → s < 24 → (ltb (getD places (firstOf s) 0) (length roles) || ltb (getD places (precisionOf s) 0) (length roles)) ≡ false → valueOf roles sample s ≡ 0
+    pub value-none : (s : ℕ) → s < rowSize → (ltb (getD places (firstOf s) 0) (length roles) || ltb (getD places (precisionOf s) 0) (length roles)) ≡ false → valueOf roles sample s ≡ 0
     value-none s h e =
         let n = neither _ _ e in
         rw (past (firstOf s) (omega arith) (n .0), past (precisionOf s) (omega arith) (n .1)) refl
@@ -126,23 +127,23 @@ Rests flag roles places waves sample k =
 
 -- ---- what is stored for a code
 
-module _ (roles places sample : List ℕ) (b : length roles ≤ 32) (t : (k : ℕ) → k < 128 → getD places k 0 ≡ placeOf k roles) (waves : List ℕ) where
+module _ (roles places sample : List ℕ) (b : length roles ≤ octetLimit) (t : Tabled places roles) (waves : List ℕ) where
   pub coordinate-is : (k : ℕ) → k < 5 → signedIn sample (codeOf places k) ≡ slotOf roles waves sample k
   unfolding signedIn
   coordinate-is k h = rw (value-is roles places sample b t k (omega arith)) (sym (slot-coordinate roles waves sample k h))
 
-  number-is : (shift k : ℕ) → k < 24 → numberIn shift sample (codeOf places k) ≡ pos (valueOf roles sample k / 2 ^ shift)
+  number-is : (shift k : ℕ) → k < rowSize → numberIn shift sample (codeOf places k) ≡ pos (valueOf roles sample k / 2 ^ shift)
   unfolding numberIn scaledIn
   number-is shift k h = rw (value-is roles places sample b t k h) refl
 
-  plain-is : (k : ℕ) → k < 24 → numberIn 0 sample (codeOf places k) ≡ pos (valueOf roles sample k)
+  plain-is : (k : ℕ) → k < rowSize → numberIn 0 sample (codeOf places k) ≡ pos (valueOf roles sample k)
   plain-is k h = number-is 0 k h ∙ ap pos (div-one (valueOf roles sample k))
 
   pub brush-is : numberIn 0 sample (codeOf places 7) ≡ slotOf roles waves sample 7
   unfolding slotOf
   brush-is = plain-is 7 (omega arith)
 
-  pub wave-is : (k : ℕ) → 16 ≤ k → k < 24 → varies places (length roles) waves k ≡ true → numberIn 0 sample (codeOf places k) ≡ slotOf roles waves sample k
+  pub wave-is : (k : ℕ) → 16 ≤ k → k < rowSize → varies places (length roles) waves k ≡ true → numberIn 0 sample (codeOf places k) ≡ slotOf roles waves sample k
   wave-is k l h v = plain-is k h ∙ sym (slot-free roles waves sample k l (go (ℕ-discrete (getD waves (k - 16) 0) 0)))
     where
       go : Dec (getD waves (k - 16) 0 ≡ 0) → getD waves (k - 16) 0 ≡ 0
@@ -152,7 +153,7 @@ module _ (roles places sample : List ℕ) (b : length roles ≤ 32) (t : (k : �
           let z : _≡_ {A = ℕ} 0 1 = cc in
           absurd (omega arith)
 
-  pub colour-is : (n : ℕ) → n < 8 → scaledIn (colourScale (hintIn roles sample) * 2) sample (codeOf places (8 + n)) ≡ colourOf roles sample n
+  pub colour-is : (n : ℕ) → n < colourLimit → scaledIn (colourScale (hintIn roles sample) * 2) sample (codeOf places (8 + n)) ≡ colourOf roles sample n
   unfolding scaledIn colourOf
   colour-is n h =
       let e : 8 + n ≡ n + 8 = omega arith in
@@ -177,7 +178,7 @@ module _ (roles places sample : List ℕ) (b : length roles ≤ 32) (t : (k : �
     none-early k h v =
         value-none roles places sample b t l k (omega arith) (sym (varies-early places (length roles) waves k h) ∙ v)
 
-    pub colour-none : (n : ℕ) → n < 8 → varies places (length roles) waves (8 + n) ≡ false → colourOf roles sample n ≡ 0
+    pub colour-none : (n : ℕ) → n < colourLimit → varies places (length roles) waves (8 + n) ≡ false → colourOf roles sample n ≡ 0
     unfolding colourOf
     colour-none n h v =
         let e : 8 + n ≡ n + 8 = omega arith in
@@ -210,7 +211,7 @@ module _ (roles places sample : List ℕ) (b : length roles ≤ 32) (t : (k : �
         rest-early flag waves k (λ q. omega arith) h
         ∙ sym (slot-colour roles waves sample k u h ∙ ap pos (colour-none (k - 8) (omega arith) (rw e (v (λ q. omega arith)))))
 
-    rest-wave : (k : ℕ) → 16 ≤ k → k < 24 → Rests flag roles places waves sample k
+    rest-wave : (k : ℕ) → 16 ≤ k → k < rowSize → Rests flag roles places waves sample k
     rest-wave k u h d v = rest-late flag waves k u ∙ go (ℕ-discrete (getD waves (k - 16) 0) 0)
       where
         go : Dec (getD waves (k - 16) 0 ≡ 0) → pos (getD waves (k - 16) 0 * 64) ≡ slotOf roles waves sample k
@@ -219,6 +220,6 @@ module _ (roles places sample : List ℕ) (b : length roles ≤ 32) (t : (k : �
             let z = sym (varies-late places (length roles) waves k u e) ∙ v (λ q. omega arith) in
             rw e (sym (slot-free roles waves sample k u e ∙ ap pos (value-none roles places sample b t l k h z)))
 
-    pub rest-is : (k : ℕ) → k < 24 → Rests flag roles places waves sample k
+    pub rest-is : (k : ℕ) → k < rowSize → Rests flag roles places waves sample k
     rest-is =
         by-slot (Rests flag roles places waves sample) rest-coordinate rest-shutter rest-intensity rest-brush rest-colour rest-wave

@@ -9,8 +9,19 @@ use lib.ListN.{length, getD, take, drop, set}
 use lib.Dec.{ltb, eqb}
 use lib.IntN.{ℤ, pos}
 use Rattle.samples.specs.declared.plan.Ends.{Ends}
-use Rattle.samples.specs.Roles.{firstOf, precisionOf}
+use Rattle.samples.specs.Limits.{rowSize}
+use Rattle.samples.specs.Roles.{firstOf, precisionOf, placeOf}
 use Rattle.samples.specs.Row.{signed, colourScale, intensityScale}
+
+-- ---- places
+
+-- how many places a table of them has: more than the largest role that a slot or the hint has
+abbrev pub tableSize : ℕ
+tableSize = 128
+
+-- the table has the place of each role below its size
+abbrev pub Tabled : List ℕ → List ℕ → Type 0
+Tabled places roles = (k : ℕ) → k < tableSize → getD places k 0 ≡ placeOf k roles
 
 -- ---- one code
 
@@ -58,19 +69,19 @@ codesIn places width waves start (suc n) =
 
 -- every code's slot is one of the row's
 abbrev pub Slotted : List ℕ → Type 0
-Slotted codes = (j : ℕ) → j < length codes → slotIn (getD codes j 0) < 24
+Slotted codes = (j : ℕ) → j < length codes → slotIn (getD codes j 0) < rowSize
 
 -- the first n codes of an array are of the row's slots
 pub record Listed (codes : List ℕ) (n : ℕ) : Type 0 where
-  pub sized : length codes ≡ 24
-  pub within : n ≤ 24
+  pub sized : length codes ≡ rowSize
+  pub within : n ≤ rowSize
   pub slotted : Slotted (take n codes)
 
 -- the codes from one place up to another
 abbrev pub slice : ℕ → ℕ → List ℕ → List ℕ
 slice start end codes = drop start (take end codes)
 
--- the kinds stand one behind the other
+-- the kinds stand one after the other
 pub record Ordered (codes : List ℕ) (ends : Ends) : Type 0 where
   pub listed : Listed codes (ends .intensity)
   pub coordinates : ends .coordinates ≤ ends .plains
@@ -140,7 +151,7 @@ litBy colours hint sample = someLit (scaledIn (colourScale (getD sample hint 0) 
 abbrev pub part : ℕ → List ℕ → ℕ → List ℕ
 part width octets i = take width (drop (i * width) octets)
 
--- the rows of the first n samples, and how many of them are lit
+-- the rows of the first n samples, and how many of their points are lit
 unfoldable pub rowsBy : Plan → ℕ → List ℕ → ℕ → List ℤ
 rowsBy p width octets zero = []
 rowsBy p width octets (suc n) = rowsBy p width octets n ++ rowBy p (part width octets n)

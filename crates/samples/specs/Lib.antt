@@ -1,4 +1,6 @@
+pub mod Limits
 pub mod Roles
 pub mod Row
 pub mod Points
 pub mod Codes
+pub mod Table

@@ -7,6 +7,7 @@ use mathlib.Core.List.{List, [], _∷_, _++_}
 use lib.ListN.{getD}
 use lib.Dec.{ltb, eqb}
 use lib.IntN.{ℤ, pos, negsuc}
+use Rattle.samples.specs.Limits.{colourLimit, rowSize}
 use Rattle.samples.specs.Roles.{firstOf, precisionOf, hintOf, placeOf, has}
 
 -- the octet with role r, 0 if there is none
@@ -75,7 +76,7 @@ slotsOf roles waves sample (suc n) = slotsOf roles waves sample n ++ (slotOf rol
 
 -- "A point is 24 signed 32-bit numbers"
 abbrev pub rowOf : List ℕ → List ℕ → List ℕ → List ℤ
-rowOf roles waves sample = slotsOf roles waves sample 24
+rowOf roles waves sample = slotsOf roles waves sample rowSize
 
 -- ---- lit
 
@@ -86,4 +87,4 @@ litAmong roles sample (suc n) = litAmong roles sample n || not (eqb (colourOf ro
 
 -- "A point is lit when a colour slot is not 0; shutter and intensity play no part"
 abbrev pub litOf : List ℕ → List ℕ → Bool
-litOf roles sample = litAmong roles sample 8
+litOf roles sample = litAmong roles sample colourLimit

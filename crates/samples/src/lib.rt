@@ -1,23 +1,28 @@
-// Samples to rows: each point of a chunk as 24 numbers (document 01, "One row").
+// Samples to rows: each point of a chunk as a row of numbers (document 01, "One row").
 mod chunk;
+pub mod limits;
 mod octets;
 mod places;
 mod plan;
 mod points;
+mod roles;
 mod row;
 
+use limits::COLOUR_LIMIT;
+use limits::OCTET_LIMIT;
+use limits::ROW;
 ghost use mathlib.Core.Path.{_≡_};
 ghost use mathlib.Core.Bool.{cond};
 ghost use lib.ListN.{take};
-ghost use Rattle.samples.specs.Points.{pointsIn, litIn, drawnOver, roomFor};
+ghost use Rattle.samples.specs.Points.{litPointsIn, drawnOver, roomFor};
 
 // The points of `octets` as rows from the start of `rows`, and how many of them are lit. The first `width` of the roles say what
 // each octet of a sample is for, and the first `colours` of the waves which wavelengths are fixed. Where the rows have no room for
 // every point, nothing is written and the count is 0.
 pub fn draw(
-    roles: [u8; 32],
+    roles: [u8; OCTET_LIMIT],
     width: usize,
-    waves: [u16; 8],
+    waves: [u16; COLOUR_LIMIT],
     colours: usize,
     octets: &[u8],
     rows: &mut [i32],
@@ -28,22 +33,22 @@ pub fn draw(
         (now (rows .entry)) ⌝ }
     ensures lit { λ r. ⌜ r
         ≡ cond (roomFor (take width roles) (now (octets .entry)) (now (rows .entry)))
-        (litIn (take width roles) (now (octets .entry)) (pointsIn (take width roles) (now (octets .entry))))
+        (litPointsIn (take width roles) (now (octets .entry)))
         0 ⌝ }
 {
-    let size = places::least(width, 32);
-    let count = points::whole(octets.len(), size);
-    if rows.len() / 24 < count {
+    let size = places::least(width, OCTET_LIMIT);
+    let samples = points::samples_in(octets.len(), size);
+    if rows.len() / ROW < samples {
         return 0;
     }
-    chunk::draw(&roles, size, &waves, colours, count, octets, rows)
+    chunk::draw(&roles, size, &waves, colours, samples, octets, rows)
 }
 
 // How many of the points of `octets` are lit, without drawing them.
-pub fn lit_points(roles: [u8; 32], width: usize, octets: &[u8]) -> usize
-    ensures { λ r. ⌜ r ≡ litIn (take width roles) (now (octets .entry)) (pointsIn (take width roles) (now (octets .entry))) ⌝ }
+pub fn lit_points(roles: [u8; OCTET_LIMIT], width: usize, octets: &[u8]) -> usize
+    ensures { λ r. ⌜ r ≡ litPointsIn (take width roles) (now (octets .entry)) ⌝ }
 {
-    let size = places::least(width, 32);
-    let count = points::whole(octets.len(), size);
-    chunk::count(&roles, size, count, octets)
+    let size = places::least(width, OCTET_LIMIT);
+    let samples = points::samples_in(octets.len(), size);
+    chunk::count(&roles, size, samples, octets)
 }

@@ -1,6 +1,6 @@
 -- Laws about tests and about checks in a row, for every crate that puts checks in order.
 use mathlib.Core.Path.{_≡_, refl, sym, _∙_}
-use Prim.Native.Nat.{ℕ, zero, suc}
+use Prim.Native.Nat.{ℕ, zero, suc, _<_}
 use mathlib.Core.Bool.{Bool, true, false, false≢true, not, _&&_, _||_}
 use mathlib.Core.Logic.{_⊎_, inl, inr}
 use native.Mathlib.Omega.{arith}
@@ -17,17 +17,6 @@ and-left false b e = e
 pub and-right : (a b : Bool) → (a && b) ≡ true → b ≡ true
 and-right true b e = e
 and-right false b e = absurd (false≢true e)
-
-pub and-true : (a : Bool) → (a && true) ≡ a
-and-true true = refl
-and-true false = refl
-
-pub and-assoc : (a b c : Bool) → ((a && b) && c) ≡ (a && (b && c))
-and-assoc true b c = refl
-and-assoc false b c = refl
-
-pub and-false : (a b : Bool) → (a && b) ≡ false → a ≡ true → b ≡ false
-and-false a b p q = rw q at p
 
 pub or-cases : (a b : Bool) → (a || b) ≡ true → (a ≡ true) ⊎ (b ≡ true)
 or-cases true b e = inl refl
@@ -50,27 +39,18 @@ first-zero-left (suc n) m p = rw (eqb·suc-zero n) at p
 pub first-zero-right : (n m : ℕ) → first n m ≡ 0 → m ≡ 0
 first-zero-right n m p = rw (eq-eqb n 0 (first-zero-left n m p)) at p
 
--- a check with none behind it
-pub first-none : (n : ℕ) → first n 0 ≡ n
-first-none zero = refl
-first-none (suc n) = rw (eqb·suc-zero n)
-
 -- a check that refuses ends the row
 pub first-refuses : (n m : ℕ) → eqb n 0 ≡ false → first n m ≡ n
 first-refuses n m e = rw e
 
-pub first-assoc : (a b c : ℕ) → first a (first b c) ≡ first (first a b) c
-first-assoc zero b c = refl
-first-assoc (suc a) b c = rw (eqb·suc-zero a) (sym (first-refuses (suc a) c (eqb·suc-zero a)))
-
--- a check that gives 0 did not hold
-pub refuse-zero : (b : Bool) (n : ℕ) → refuse b (suc n) ≡ 0 → b ≡ false
-refuse-zero true n p = let z : suc n ≡ 0 = p in absurd (omega arith)
-refuse-zero false n p = refl
+-- check n that gives 0 did not hold
+pub refuse-zero : (b : Bool) (n : ℕ) → 0 < n → refuse b n ≡ 0 → b ≡ false
+refuse-zero true n h p = let z : n ≡ 0 = p in absurd (omega arith)
+refuse-zero false n h p = refl
 
 -- a number that refuses is not 0
-pub not-zero : (k n : ℕ) → k ≡ suc n → k ≡ 0 → ⊥
-not-zero k n e z = omega arith
+pub not-zero : (k n : ℕ) → 0 < n → k ≡ n → k ≡ 0 → ⊥
+not-zero k n h e z = omega arith
 
 pub refused-not-zero : (n : ℕ) → not (eqb n 0) ≡ true → n ≡ 0 → ⊥
 refused-not-zero n e z = false≢true (sym (not-true (eqb n 0) e) ∙ eq-eqb n 0 z)

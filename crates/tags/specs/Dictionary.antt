@@ -1,13 +1,14 @@
 -- The dictionary check (document 01, "Tag dictionary, modes 1 and 2" and checks 8 to 12 in their order): the tags are taken one
 -- by one; at each 8, 9, 10 and 11 are tried in turn, then the next tag; at the end an unfinished prefix is 10, then 12.
 use Prim.Native.Nat.{ℕ, zero, suc, _+_, _-_, _*_, _/_, _%_}
-use mathlib.Core.Bool.{Bool, cond, not, _&&_, _||_}
+use mathlib.Core.Bool.{Bool, false, cond, not, _&&_, _||_}
 use mathlib.Core.List.{List, [], _∷_, _++_}
 use lib.ListN.{length, getD}
 use lib.Dec.{ltb, leb, eqb}
-use Rattle.samples.specs.Roles.{ignored, firstOf, hintOf, has}
+use Rattle.samples.specs.Roles.{ignored, firstOf, precisionOf, hintOf, has}
+use Rattle.tags.specs.Limits.{octetLimit, colourLimit, tagOctetLimit}
 use Rattle.tags.specs.Choice.{refuse, first}
-use Rattle.tags.specs.Tag.{takesOctet, definedGroup, isVoid, isSpace, isPrecision, isHint, isColour, wavelength, isPrefixed, isPrefix, isSingle, knownTag, isSignal, slotFor}
+use Rattle.tags.specs.Tag.{takesOctet, definedGroup, skips, isSpace, isPrecision, isHint, isColour, wavelength, isPrefixed, isPrefix, isSingle, knownTag, isSignal, slotFor}
 
 -- What a dictionary says of a sample: a role for each octet, so as many roles as the sample has octets; the wavelength of each
 -- colour in dictionary order, 0 where a prefix gives it; and the space modifier's word, 0 if none.
@@ -19,62 +20,64 @@ pub record Sample : Type 0 where
 abbrev pub noSample : Sample
 noSample = record { roles = []; waves = []; space = 0 }
 
--- What the tag directly before allows: `takes` is 0, or s + 1 where a precision may follow for the signal in slot s; `waiting` is 1
--- behind a prefix, and its precision if any, until its 5000.
-pub record Before : Type 0 where
-  pub takes : ℕ
-  pub waiting : ℕ
+-- What the tag directly before allows: whether a precision may stand here, and the role that its octet then has; and whether a prefix,
+-- with its precision if any, waits for its 5000.
+pub record Allowed : Type 0 where
+  pub precision : Bool
+  pub role : ℕ
+  pub waiting : Bool
 
-abbrev pub nothing : Before
-nothing = record { takes = 0; waiting = 0 }
+abbrev pub nothingAllowed : Allowed
+nothingAllowed = record { precision = false; role = ignored; waiting = false }
 
--- The walk: the refusal, 0 so far; how many words a Void still skips; the tag before; and the sample so far.
-pub record Walk : Type 0 where
+-- The walk: the refusal, 0 so far; how many words a Void still skips; what the tag before allows; and the sample so far.
+pub record DictionaryWalk : Type 0 where
   pub refusal : ℕ
   pub skip : ℕ
-  pub before : Before
+  pub allowed : Allowed
   pub sample : Sample
 
-abbrev pub begun : Walk
-begun = record { refusal = 0; skip = 0; before = nothing; sample = noSample }
+-- the walk with nothing read: at its start with 0, and after a refusal with its number
+abbrev pub nothingRead : ℕ → DictionaryWalk
+nothingRead n = record { refusal = n; skip = 0; allowed = nothingAllowed; sample = noSample }
 
 -- ---- checks 10 and 11
 
--- check 10: "Precision, prefix or 5000 is misplaced, or a Void passes the end". `left` words stand behind the tag.
-unfoldable pub misplaced : ℕ → ℕ → Before → Bool
-misplaced left w b =
-    cond (isPrecision w) (eqb (b .takes) 0)
-    (cond (isPrefixed w) (eqb (b .waiting) 0)
-    (eqb (b .waiting) 1 || isVoid w && ltb left w))
+-- check 10: "Precision, prefix or 5000 is misplaced, or a Void passes the end". `left` words stand after the tag.
+unfoldable pub misplaced : ℕ → ℕ → Allowed → Bool
+misplaced left w a =
+    cond (isPrecision w) (not (a .precision))
+    (cond (isPrefixed w) (not (a .waiting))
+    (a .waiting || ltb left (skips w)))
 
 -- check 11: "A signal, hint or space modifier repeats, or it is the 9th colour or 33rd octet"
 unfoldable pub repeated : ℕ → Sample → Bool
 repeated w s =
-    takesOctet w && leb 32 (length (s .roles))
-    || isColour w && leb 8 (length (s .waves))
+    takesOctet w && leb octetLimit (length (s .roles))
+    || isColour w && leb colourLimit (length (s .waves))
     || isSingle w && has (s .roles) (firstOf (slotFor w 0))
     || isHint w && (has (s .roles) (hintOf 0) || has (s .roles) (hintOf 1))
     || isSpace w && not (eqb (s .space) 0)
 
 -- the number that refuses tag w, 0 where it passes
-unfoldable pub tagNumber : ℕ → ℕ → ℕ → Walk → ℕ
+unfoldable pub tagNumber : ℕ → ℕ → ℕ → DictionaryWalk → ℕ
 tagNumber mode left w s =
     first (refuse (not (definedGroup w)) 8)
     (first (refuse (not (knownTag mode w)) 9)
-    (first (refuse (misplaced left w (s .before)) 10)
+    (first (refuse (misplaced left w (s .allowed)) 10)
     (refuse (repeated w (s .sample)) 11)))
 
 -- ---- a tag that passes
 
 -- the role of its octet
-unfoldable pub roleFor : ℕ → Walk → ℕ
+unfoldable pub roleFor : ℕ → DictionaryWalk → ℕ
 roleFor w s =
     cond (isSignal w) (firstOf (slotFor w (length (s .sample .waves))))
-    (cond (isPrecision w) (s .before .takes + 32)
+    (cond (isPrecision w) (s .allowed .role)
     (cond (isHint w) (hintOf (w % 2)) ignored))
 
 -- what the sample is with it
-unfoldable pub sampleWith : ℕ → Walk → Sample
+unfoldable pub sampleWith : ℕ → DictionaryWalk → Sample
 sampleWith w s =
     record {
       roles = cond (takesOctet w) (s .sample .roles ++ (roleFor w s ∷ [])) (s .sample .roles);
@@ -82,30 +85,31 @@ sampleWith w s =
       space = cond (isSpace w) w (s .sample .space);
     }
 
--- what it allows directly behind it
-unfoldable pub allowedBehind : ℕ → Walk → Before
-allowedBehind w s =
+-- what it allows directly after it: a precision after a signal, and after a prefix or its precision the 5000
+unfoldable pub allowedAfter : ℕ → DictionaryWalk → Allowed
+allowedAfter w s =
     record {
-      takes = cond (isSignal w) (slotFor w (length (s .sample .waves)) + 1) 0;
-      waiting = cond (isPrefix w) 1 (cond (isPrecision w) (s .before .waiting) 0);
+      precision = isSignal w;
+      role = cond (isSignal w) (precisionOf (slotFor w (length (s .sample .waves)))) ignored;
+      waiting = isPrefix w || isPrecision w && s .allowed .waiting;
     }
 
 -- ---- the walk
 
--- the walk with tag w read, behind which `left` words stand
-unfoldable pub read : ℕ → ℕ → ℕ → Walk → Walk
+-- the walk with tag w read, after which `left` words stand
+unfoldable pub read : ℕ → ℕ → ℕ → DictionaryWalk → DictionaryWalk
 read mode left w s =
     cond (eqb (tagNumber mode left w s) 0)
-    (record { refusal = 0; skip = cond (isVoid w) w 0; before = allowedBehind w s; sample = sampleWith w s })
-    (record { refusal = tagNumber mode left w s; skip = 0; before = nothing; sample = noSample })
+    (record { refusal = 0; skip = skips w; allowed = allowedAfter w s; sample = sampleWith w s })
+    (nothingRead (tagNumber mode left w s))
 
 -- one word more: a refusal stays, a word that a Void skips is not read
-unfoldable pub step : ℕ → ℕ → ℕ → Walk → Walk
+unfoldable pub step : ℕ → ℕ → ℕ → DictionaryWalk → DictionaryWalk
 step mode left w s =
     cond (eqb (s .refusal) 0)
     (cond (eqb (s .skip) 0)
     (read mode left w s)
-    (record { refusal = 0; skip = s .skip - 1; before = s .before; sample = s .sample }))
+    (record { refusal = 0; skip = s .skip - 1; allowed = s .allowed; sample = s .sample }))
     s
 
 -- word i of the tag octets, big-endian
@@ -116,8 +120,8 @@ abbrev pub wordCount : List ℕ → ℕ
 wordCount tags = length tags / 2
 
 -- the walk over the first i words
-unfoldable pub walked : ℕ → List ℕ → ℕ → Walk
-walked mode tags zero = begun
+unfoldable pub walked : ℕ → List ℕ → ℕ → DictionaryWalk
+walked mode tags zero = nothingRead 0
 walked mode tags (suc i) = step mode (wordCount tags - suc i) (wordAt tags i) (walked mode tags i)
 
 -- ---- the end
@@ -126,8 +130,8 @@ walked mode tags (suc i) = step mode (wordCount tags - suc i) (wordAt tags i) (w
 unfoldable pub incomplete : Sample → Bool
 incomplete s = not (has (s .roles) (firstOf 0)) || not (has (s .roles) (firstOf 1)) || eqb (length (s .waves)) 0
 
-unfoldable pub endNumber : Walk → ℕ
-endNumber s = first (s .refusal) (first (refuse (eqb (s .before .waiting) 1) 10) (refuse (incomplete (s .sample)) 12))
+unfoldable pub endNumber : DictionaryWalk → ℕ
+endNumber s = first (s .refusal) (first (refuse (s .allowed .waiting) 10) (refuse (incomplete (s .sample)) 12))
 
 -- the refusal of the dictionary `tags` in mode 1 or 2, 8 to 12, or 0
 unfoldable pub dictionaryNumber : ℕ → List ℕ → ℕ
@@ -143,7 +147,7 @@ dictionarySample mode tags =
 unfoldable pub hostNumber : ℕ → List ℕ → ℕ
 hostNumber mode tags =
     first (refuse (not (eqb mode 1 || eqb mode 2)) 6)
-    (first (refuse (not (eqb (length tags % 2) 0 && leb (length tags) 1020)) 5) (dictionaryNumber mode tags))
+    (first (refuse (not (eqb (length tags % 2) 0 && leb (length tags) tagOctetLimit)) 5) (dictionaryNumber mode tags))
 
 -- "it returns the width, or 100 plus the refusal"
 unfoldable pub hostCheck : ℕ → List ℕ → ℕ

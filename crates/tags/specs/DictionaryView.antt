@@ -1,30 +1,30 @@
--- How the record that the dictionary walk carries is read, as specs/Layout.antt says it of a layout; and which of them are sound.
-use Prim.Native.Nat.{ℕ, _≤_}
+-- How the record that the dictionary walk carries is read, as specs/Layout.antt says it of a layout, and what holds of its layout all
+-- along; `sampleWith` in three parts.
+use Prim.Native.Nat.{ℕ}
 use mathlib.Core.Bool.{cond}
 use mathlib.Core.List.{[], _∷_, _++_}
+use mathlib.Core.Path.{_≡_}
+use lib.ListN.{take}
+use Rattle.tags.specs.Limits.{octetLimit, colourLimit}
 use Rattle.tags.specs.Tag.{takesOctet, isColour, wavelength, isSpace}
-use Rattle.tags.specs.Dictionary.{Sample, noSample, Before, nothing, Walk}
-use Rattle.tags.specs.Layout.{sampleOf, soundLayout}
+use Rattle.tags.specs.Dictionary.{Sample, Allowed, DictionaryWalk}
+use Rattle.tags.specs.Layout.{sampleOf, padded, LayoutWithin}
+use Rattle.tags.specs.declared.Layout as declaredLayout
 use Rattle.tags.specs.declared.gather.Allowed as declaredAllowed
-use Rattle.tags.specs.declared.gather.Progress as declaredProgress
+use Rattle.tags.specs.declared.gather.DictionaryWalk as declaredWalk
 
-abbrev pub beforeOf : declaredAllowed.Allowed → Before
-beforeOf a = record { takes = a .takes; waiting = a .waiting }
+abbrev pub allowedOf : declaredAllowed.Allowed → Allowed
+allowedOf a = record { precision = a .precision; role = a .role; waiting = a .waiting }
 
-abbrev pub walkOf : declaredProgress.Progress → Walk
-walkOf p =
-    record { refusal = p .refusal; skip = p .skip; before = beforeOf (p .allowed); sample = sampleOf (p .layout) }
+abbrev pub dictionaryWalkOf : declaredWalk.DictionaryWalk → DictionaryWalk
+dictionaryWalkOf p =
+    record { refusal = p .refusal; skip = p .skip; allowed = allowedOf (p .allowed); sample = sampleOf (p .layout) }
 
--- the counts are within the arrays, and the slot that a precision may follow is one of 0 to 24: 24 behind the prefix of a 9th colour
-abbrev pub soundAllowed : declaredAllowed.Allowed → Type 0
-soundAllowed a = a .takes ≤ 25
-
-abbrev pub soundWalk : declaredProgress.Progress → Type 0
-soundWalk p = soundAllowed (p .allowed) × soundLayout (p .layout)
-
--- the walk with nothing read: at the start with refusal 0, and behind a refusal
-abbrev pub bare : ℕ → Walk
-bare n = record { refusal = n; skip = 0; before = nothing; sample = noSample }
+-- the counts of the layout are within its arrays, and the arrays hold 0 after them
+abbrev pub LayoutFilled : declaredLayout.Layout → Type 0
+LayoutFilled l =
+    LayoutWithin l × (l .roles ≡ padded octetLimit (take (l .width) (l .roles)))
+    × (l .waves ≡ padded colourLimit (take (l .colours) (l .waves)))
 
 -- ---- sampleWith in three parts
 

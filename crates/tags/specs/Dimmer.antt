@@ -4,6 +4,7 @@ use mathlib.Core.Bool.{Bool, true, false, cond, not, _&&_, _||_}
 use mathlib.Core.List.{List, [], _∷_, _++_}
 use lib.ListN.{length, getD}
 use lib.Dec.{ltb, leb, eqb}
+use Rattle.tags.specs.Limits.{subsetLimit, lastLevel, levelEnd, dropBase}
 use Rattle.tags.specs.Choice.{refuse, first}
 
 -- What dimmer tags say: `base` is that of a 42, 0 without one; `subsets` are the 43s in order, each as base × 256 + count.
@@ -22,15 +23,15 @@ countOf e = e % 256
 
 -- FFFF "drops the octets"
 abbrev pub dropped : ℕ → Bool
-dropped b = eqb b 0xFFFF
+dropped b = eqb b dropBase
 
 -- "Base is 1 to 512, or FFFF"
 abbrev pub baseInRange : ℕ → Bool
-baseInRange b = leb 1 b && leb b 512 || dropped b
+baseInRange b = leb 1 b && leb b lastLevel || dropped b
 
 -- "Count is 1 to 255; base + count is at most 513 unless base is FFFF"
 abbrev pub countInRange : ℕ → ℕ → Bool
-countInRange b c = leb 1 c && (leb (b + c) 513 || dropped b)
+countInRange b c = leb 1 c && (leb (b + c) levelEnd || dropped b)
 
 -- two mapped ranges share a level; a dropped one is not mapped
 abbrev pub overlap : ℕ → ℕ → Bool
@@ -42,7 +43,7 @@ unfoldable pub overlapsAny : ℕ → List ℕ → Bool
 overlapsAny e [] = false
 overlapsAny e (f ∷ fs) = overlap e f || overlapsAny e fs
 
--- ---- what the checks leave
+-- ---- a mapping in range: check 13 lets no other pass
 
 -- each subset's base and count are in range
 unfoldable pub allInRange : List ℕ → Bool
@@ -56,23 +57,25 @@ mappingInRange m = (eqb (m .base) 0 || baseInRange (m .base)) && allInRange (m .
 -- ---- the state of the walk
 
 -- The walk over the octets: the refusal, 0 so far; how many octets are still to be passed over; the mapping so far.
-pub record Dimming : Type 0 where
+pub record DimmerWalk : Type 0 where
   pub refusal : ℕ
   pub skip : ℕ
   pub mapping : Mapping
 
-abbrev pub undimmed : Dimming
-undimmed = record { refusal = 0; skip = 0; mapping = noMapping }
+-- the walk with nothing mapped: at its start with 0, and after a refusal with its number
+abbrev pub nothingMapped : ℕ → DimmerWalk
+nothingMapped n = record { refusal = n; skip = 0; mapping = noMapping }
 
--- ---- one tag: octet i is the tag, the octets behind it are its operands
+-- ---- one tag: octet i is the tag, the octets after it are its operands
 
 -- two octets from place i on, big-endian
 abbrev pub pairAt : List ℕ → ℕ → ℕ
 pairAt tags i = getD tags i 0 * 256 + getD tags (i + 1) 0
 
--- how many octets belong to the tag besides itself: 0n has n, 42 has two, 43 has three
+-- how many octets belong to the tag besides itself: 0n has n, 42 has two, 43 has three. The low nibble of each tag is their number (003,
+-- 4.4: the parameter is the "Data octet count").
 abbrev pub operands : ℕ → ℕ
-operands t = cond (ltb t 16) t (t % 16)
+operands t = t % 16
 
 -- the subset of a 43 at place i
 abbrev pub subsetAt : List ℕ → ℕ → ℕ
@@ -92,7 +95,7 @@ unfoldable pub clashingTag : List ℕ → ℕ → Mapping → Bool
 clashingTag tags i m =
     eqb (getD tags i 0) 0x42 && (not (eqb (m .base) 0) || ltb 0 (length (m .subsets)))
     || eqb (getD tags i 0) 0x43
-    && (not (eqb (m .base) 0) || leb 32 (length (m .subsets)) || overlapsAny (subsetAt tags i) (m .subsets))
+    && (not (eqb (m .base) 0) || leb subsetLimit (length (m .subsets)) || overlapsAny (subsetAt tags i) (m .subsets))
 
 unfoldable pub dimmerTagNumber : List ℕ → ℕ → Mapping → ℕ
 dimmerTagNumber tags i m = first (refuse (badDimmerTag tags i) 13) (refuse (clashingTag tags i m) 14)
@@ -107,14 +110,14 @@ mappingWith tags i m =
 
 -- ---- the walk
 
-unfoldable pub readDimmer : List ℕ → ℕ → Dimming → Dimming
+unfoldable pub readDimmer : List ℕ → ℕ → DimmerWalk → DimmerWalk
 readDimmer tags i s =
     cond (eqb (dimmerTagNumber tags i (s .mapping)) 0)
     (record { refusal = 0; skip = operands (getD tags i 0); mapping = mappingWith tags i (s .mapping) })
-    (record { refusal = dimmerTagNumber tags i (s .mapping); skip = 0; mapping = noMapping })
+    (nothingMapped (dimmerTagNumber tags i (s .mapping)))
 
 -- one octet more: a refusal stays, a skipped octet or an operand is passed over
-unfoldable pub stepDimmer : List ℕ → ℕ → Dimming → Dimming
+unfoldable pub stepDimmer : List ℕ → ℕ → DimmerWalk → DimmerWalk
 stepDimmer tags i s =
     cond (eqb (s .refusal) 0)
     (cond (eqb (s .skip) 0)
@@ -123,8 +126,8 @@ stepDimmer tags i s =
     s
 
 -- the walk over the first i octets
-unfoldable pub dimmed : List ℕ → ℕ → Dimming
-dimmed tags zero = undimmed
+unfoldable pub dimmed : List ℕ → ℕ → DimmerWalk
+dimmed tags zero = nothingMapped 0
 dimmed tags (suc i) = stepDimmer tags i (dimmed tags i)
 
 -- the refusal of dimmer tags, 13 or 14, or 0; and what they say

@@ -1,32 +1,19 @@
 -- Laws of the dimmer tags' definitions (specs/Dimmer.antt).
-use Prim.Native.Nat.{ℕ, zero, suc, _+_, _-_, _*_, _%_, _<_, _≤_, zero-le}
-use mathlib.Core.Bool.{Bool, true, false, true≢false, and-true, and-eq-true-iff, cond, not, _&&_, _||_}
+use Prim.Native.Nat.{ℕ, zero, suc, _+_, _-_, _*_, _<_, _≤_, zero-le}
+use mathlib.Core.Bool.{Bool, true, false, and-true, and-eq-true-iff, cond, not, _&&_, _||_}
 use mathlib.Core.List.{List, [], _∷_, _++_}
-use mathlib.Core.Path.{_≡_, refl, sym}
-use mathlib.Core.Logic.{_⊎_, inl, inr}
-use native.Mathlib.Nat.{mod-eq-of-lt}
-use native.Mathlib.Numerals.{add-one}
+use mathlib.Core.Path.{_≡_, refl}
 use native.Mathlib.Omega.{arith}
-use lib.ListN.{length, getD, set, length-append}
+use lib.ListN.{length, getD, length-append}
 use lib.Dec.{ltb, leb, eqb}
 use lib.Arith.{digits-div, digits-mod}
-use borrow.Author.Tests.{ltb-true, leb-false, eqb-true, ne-eqb, not-false}
-use Rattle.tags.specs.Dimmer.{Mapping, baseInRange, countInRange, operands, baseOf, countOf, pairAt, subsetAt, overlapsAny, badDimmerTag, clashingTag, dimmerTagNumber, mappingWith, noMapping, Dimming, undimmed, readDimmer, stepDimmer, dimmed, dimmerNumber, dimmerMapping, allInRange, mappingInRange}
+use borrow.Author.Tests.{leb-false, eqb-true, not-false}
+use Rattle.tags.specs.Limits.{subsetLimit}
+use Rattle.tags.specs.Dimmer.{Mapping, baseInRange, countInRange, operands, baseOf, countOf, pairAt, subsetAt, overlapsAny, badDimmerTag, clashingTag, dimmerTagNumber, mappingWith, noMapping, DimmerWalk, nothingMapped, readDimmer, stepDimmer, dimmed, dimmerNumber, dimmerMapping, allInRange, mappingInRange}
 use Rattle.tags.specs.Choice.{refuse, first}
-use Rattle.tags.specs.Layout.{mappingOf}
-use Rattle.tags.specs.Dimming.{refusedWith, unread}
-use Rattle.tags.specs.SubsetLaws.{set-subsets}
-use Rattle.tags.specs.declared.Dimmer.{Dimmer}
+use Rattle.tags.specs.ChoiceLaws.{or-false-left, or-false-right}
 
--- ---- numbers
-
--- in each tag the operands are its low four bits
-pub operands-low : (t : ℕ) → operands t ≡ t % 16
-operands-low t = by-test (ltb t 16) refl
-  where
-    by-test : (b : Bool) → ltb t 16 ≡ b → cond b t (t % 16) ≡ t % 16
-    by-test true e = sym (mod-eq-of-lt (ltb-true t 16 e))
-    by-test false e = refl
+-- ---- a subset
 
 -- base and count of a subset, where the count is an octet
 pub base-of : (b c : ℕ) → c < 256 → baseOf (b * 256 + c) ≡ b
@@ -38,85 +25,35 @@ count-of b c h = digits-mod b h
 -- ---- a tag that passes, by what it is
 
 middle-false : (a b c : Bool) → a || b || c ≡ false → b ≡ false
-middle-false true b c e = absurd (true≢false e)
-middle-false false true c e = e
-middle-false false false c e = refl
+middle-false a b c e = or-false-right a b (or-false-left (a || b) c e)
 
 module _ (tags : List ℕ) (i : ℕ) (m : Mapping) where
-  pub clash-room : getD tags i 0 ≡ 0x43 → clashingTag tags i m ≡ false → length (m .subsets) < 32
+  pub clash-room : getD tags i 0 ≡ 0x43 → clashingTag tags i m ≡ false → length (m .subsets) < subsetLimit
   unfolding clashingTag
   clash-room t e =
-      leb-false 32 (length (m .subsets))
-      (middle-false (not (eqb (m .base) 0)) (leb 32 (length (m .subsets))) (overlapsAny (subsetAt tags i) (m .subsets)) (rw t at e))
-
-  pub mapping-with-base : (b : ℕ) → getD tags i 0 ≡ 0x42 → b ≡ pairAt tags (i + 1)
-      → record { base = b; subsets = m .subsets } ≡ mappingWith tags i m
-  unfolding mappingWith
-  mapping-with-base b t e = rw (t, e)
-
-  pub mapping-with-void : (getD tags i 0 ≡ 0x42 → ⊥) → (getD tags i 0 ≡ 0x43 → ⊥) → m ≡ mappingWith tags i m
-  unfolding mappingWith
-  mapping-with-void s t = rw (ne-eqb _ _ s, ne-eqb _ _ t)
-
--- a base and a count stored behind the subsets of a dimmer record
-pub mapping-with-subset : (tags : List ℕ) (i : ℕ) (d : Dimmer) (b c : ℕ) → getD tags i 0 ≡ 0x43 → b ≡ pairAt tags (i + 1)
-    → c ≡ getD tags (i + 3) 0 → d .count < length (d .bases) → d .count < length (d .counts)
-    → mappingOf (record { bases = set (d .bases) (d .count) b; counts = set (d .counts) (d .count) c; base = d .base; count = d .count + 1 })
-    ≡ mappingWith tags i (mappingOf d)
-unfolding mappingWith
-mapping-with-subset tags i d b c t eb ec hb hc =
-    rw (t, ← eb, ← ec, add-one (d .count), set-subsets (d .count) (d .bases) (d .counts) b c hb hc)
-
--- ---- one octet, by what becomes of it
-
-module _ (tags : List ℕ) (i : ℕ) (m : Mapping) where
-  pub read-bad : badDimmerTag tags i ≡ true → refusedWith 13 ≡ readDimmer tags i (unread m)
-  unfolding readDimmer dimmerTagNumber
-  read-bad e = rw e
-
-  pub read-clash : badDimmerTag tags i ≡ false → clashingTag tags i m ≡ true → refusedWith 14 ≡ readDimmer tags i (unread m)
-  unfolding readDimmer dimmerTagNumber
-  read-clash e f = rw (e, f)
-
-  pub read-passes : (n : Mapping) → badDimmerTag tags i ≡ false → clashingTag tags i m ≡ false → n ≡ mappingWith tags i m
-      → record { refusal = 0; skip = getD tags i 0 % 16; mapping = n } ≡ readDimmer tags i (unread m)
-  unfolding readDimmer dimmerTagNumber
-  read-passes n e f g = rw (e, f, operands-low (getD tags i 0), g)
-
-module _ (tags : List ℕ) (i : ℕ) (s : Dimming) where
-  pub step-refused : (s .refusal ≡ 0 → ⊥) → s ≡ stepDimmer tags i s
-  unfolding stepDimmer
-  step-refused h = rw (ne-eqb (s .refusal) 0 h)
-
-  pub step-reads : s .refusal ≡ 0 → s .skip ≡ 0 → readDimmer tags i (unread (s .mapping)) ≡ stepDimmer tags i s
-  unfolding stepDimmer readDimmer
-  step-reads h k = rw (h, k)
-
-  pub step-skips : s .refusal ≡ 0 → (s .skip ≡ 0 → ⊥)
-      → record { refusal = s .refusal; skip = s .skip - 1; mapping = s .mapping } ≡ stepDimmer tags i s
-  unfolding stepDimmer
-  step-skips h k = rw (h, ne-eqb (s .skip) 0 k)
+      leb-false subsetLimit (length (m .subsets))
+      (middle-false (not (eqb (m .base) 0)) (leb subsetLimit (length (m .subsets))) (overlapsAny (subsetAt tags i) (m .subsets)) (rw t at e))
 
 -- ---- what holds of the walk: at its start, at each refusal, and past each octet
 
-module _ (tags : List ℕ) (P : Dimming → Type 0) (begins : P undimmed) (thirteen : P (refusedWith 13)) (fourteen : P (refusedWith 14))
-    (skips : (s : Dimming) → P s → P (record { refusal = 0; skip = s .skip - 1; mapping = s .mapping }))
-    (passes : (i : ℕ) (s : Dimming) → P s → badDimmerTag tags i ≡ false → clashingTag tags i (s .mapping) ≡ false
+module _ (tags : List ℕ) (P : DimmerWalk → Type 0) (begins : P (nothingMapped 0)) (thirteen : P (nothingMapped 13)) (fourteen : P (nothingMapped 14))
+    (skips : (s : DimmerWalk) → P s → P (record { refusal = 0; skip = s .skip - 1; mapping = s .mapping }))
+    (passes : (i : ℕ) (s : DimmerWalk) → P s → badDimmerTag tags i ≡ false → clashingTag tags i (s .mapping) ≡ false
     → P (record { refusal = 0; skip = operands (getD tags i 0); mapping = mappingWith tags i (s .mapping) }))
   where
-    read-holds : (i : ℕ) (s : Dimming) → P s → P (readDimmer tags i s)
+    read-holds : (i : ℕ) (s : DimmerWalk) → P s → P (readDimmer tags i s)
     unfolding readDimmer dimmerTagNumber
     read-holds i s h = by-tests (badDimmerTag tags i) (clashingTag tags i (s .mapping)) refl refl
       where
         by-tests : (a c : Bool) → badDimmerTag tags i ≡ a → clashingTag tags i (s .mapping) ≡ c
             → P (cond (eqb (first (refuse a 13) (refuse c 14)) 0)
             (record { refusal = 0; skip = operands (getD tags i 0); mapping = mappingWith tags i (s .mapping) })
-            (record { refusal = first (refuse a 13) (refuse c 14); skip = 0; mapping = noMapping }))
+            (nothingMapped (first (refuse a 13) (refuse c 14))))
         by-tests true c e f = thirteen
         by-tests false true e f = fourteen
         by-tests false false e f = passes i s h e f
 
-    step-holds : (i : ℕ) (s : Dimming) → P s → P (stepDimmer tags i s)
+    step-holds : (i : ℕ) (s : DimmerWalk) → P s → P (stepDimmer tags i s)
     unfolding stepDimmer
     step-holds i s h = by-tests (eqb (s .refusal) 0) (eqb (s .skip) 0)
       where
@@ -126,21 +63,17 @@ module _ (tags : List ℕ) (P : Dimming → Type 0) (begins : P undimmed) (thirt
         by-tests true true = read-holds i s h
         by-tests true false = skips s h
 
-    pub dimmed-holds : (n : ℕ) → P (dimmed tags n)
+    dimmed-holds : (n : ℕ) → P (dimmed tags n)
     unfolding dimmed
     dimmed-holds zero = begins
     dimmed-holds (suc i) = step-holds i (dimmed tags i) (dimmed-holds i)
 
 -- ---- for the layer above
 
--- the refusals of dimmer tags
-abbrev pub DimmerRefusal : ℕ → Type 0
-DimmerRefusal n = ((n ≡ 0) ⊎ (13 ≤ n)) × (n ≤ 14)
-
--- what checks 13 and 14 leave of a mapping: a base in range, or 0 without a 42; at most 32 subsets, each in range
+-- what checks 13 and 14 leave of a mapping: a base in range, or 0 without a 42; subsets within their limit, each in range
 pub record Ranged (m : Mapping) : Type 0 where
   pub base : eqb (m .base) 0 || baseInRange (m .base) ≡ true
-  pub few : length (m .subsets) ≤ 32
+  pub few : length (m .subsets) ≤ subsetLimit
   pub each : allInRange (m .subsets) ≡ true
 
 ranged-none : Ranged noMapping
@@ -160,10 +93,6 @@ right-true : (a b : Bool) → b ≡ true → a || b ≡ true
 right-true true b e = refl
 right-true false b e = e
 
-right-false : (a b : Bool) → a || b ≡ false → b ≡ false
-right-false true b e = absurd (true≢false e)
-right-false false b e = e
-
 -- A tag that passes checks 13 and 14 leaves the mapping in range. That the tags are octets is asked, since a count above 255 would
 -- run over into the base.
 module _ (tags : List ℕ) (i : ℕ) (m : Mapping) (octets : (k : ℕ) → getD tags k 0 < 256) (good : badDimmerTag tags i ≡ false) where
@@ -181,7 +110,7 @@ module _ (tags : List ℕ) (i : ℕ) (m : Mapping) (octets : (k : ℕ) → getD 
       let c = getD tags (i + 3) 0 in
       rw (base-of b c (octets (i + 3)), count-of b c (octets (i + 3)))
       (not-false (baseInRange b && countInRange b c)
-      (right-false (ltb (length tags) (i + 1 + 3) || false) (not (baseInRange b && countInRange b c)) (rw t at good)))
+      (or-false-right (ltb (length tags) (i + 1 + 3) || false) (not (baseInRange b && countInRange b c)) (rw t at good)))
 
   ranged-with : clashingTag tags i m ≡ false → Ranged m → Ranged (mappingWith tags i m)
   unfolding mappingWith
@@ -201,7 +130,7 @@ module _ (tags : List ℕ) (i : ℕ) (m : Mapping) (octets : (k : ℕ) → getD 
           right-true (eqb (pairAt tags (i + 1)) 0) (baseInRange (pairAt tags (i + 1))) (base-in-range (eqb-true t 0x42 e))
       by-base false e = r .base
 
-      by-few : (b : Bool) → eqb t 0x43 ≡ b → length (cond b (m .subsets ++ (subsetAt tags i ∷ [])) (m .subsets)) ≤ 32
+      by-few : (b : Bool) → eqb t 0x43 ≡ b → length (cond b (m .subsets ++ (subsetAt tags i ∷ [])) (m .subsets)) ≤ subsetLimit
       by-few true e =
           rw (length-append (m .subsets) (subsetAt tags i ∷ []))
           (omega (arith, clash-room tags i m (eqb-true t 0x43 e) free))
@@ -210,12 +139,6 @@ module _ (tags : List ℕ) (i : ℕ) (m : Mapping) (octets : (k : ℕ) → getD 
       by-each : (b : Bool) → eqb t 0x43 ≡ b → allInRange (cond b (m .subsets ++ (subsetAt tags i ∷ [])) (m .subsets)) ≡ true
       by-each true e = all-in-range-append (m .subsets) (subsetAt tags i) (r .each) (subset-in-range (eqb-true t 0x43 e))
       by-each false e = r .each
-
-pub dimmer-number-refusal : (tags : List ℕ) → DimmerRefusal (dimmerNumber tags)
-unfolding dimmerNumber
-dimmer-number-refusal tags =
-    dimmed-holds tags (λ s. DimmerRefusal (s .refusal)) (inl refl, omega arith) (inr (omega arith), omega arith) (inr (omega arith), omega arith)
-    (λ s h. (inl refl, omega arith)) (λ i s h e f. (inl refl, omega arith)) (length tags)
 
 -- a refusal leaves no mapping
 pub dimmer-refused-none : (tags : List ℕ) → (dimmerNumber tags ≡ 0 → ⊥) → dimmerMapping tags ≡ noMapping

@@ -1,14 +1,19 @@
 -- How the records that hold a dictionary and dimmer tags are read: by what they mean, so that the promises need not know how they
--- are laid out. And which of them are sound: those whose counts are within their arrays.
-use Prim.Native.Nat.{ℕ, _+_, _*_, _≤_}
+-- are laid out; which record holds a sample or a mapping; and the tests that a kept one is held to.
+use Prim.Native.Nat.{ℕ, _+_, _-_, _*_, _≤_}
 use mathlib.Core.Bool.{Bool, _&&_}
-use mathlib.Core.List.{List, [], _∷_}
-use lib.ListN.{take, replicate}
+use mathlib.Core.List.{List, [], _∷_, _++_, map}
+use lib.ListN.{length, take, replicate}
 use lib.Dec.{leb}
-use Rattle.tags.specs.Dictionary.{Sample}
-use Rattle.tags.specs.Dimmer.{Mapping, mappingInRange}
+use Rattle.tags.specs.Limits.{octetLimit, colourLimit, subsetLimit}
+use Rattle.tags.specs.Dictionary.{Sample, noSample, dictionaryNumber, dictionarySample, hostNumber, hostSample}
+use Rattle.tags.specs.Dimmer.{Mapping, noMapping, baseOf, countOf, mappingInRange, dimmerNumber, dimmerMapping}
 use Rattle.tags.specs.declared.Layout as declared
 use Rattle.tags.specs.declared.Dimmer as declaredDimmer
+use Rattle.tags.specs.declared.Checked as declaredChecked
+use Rattle.tags.specs.declared.Mapped as declaredMapped
+
+-- ---- what a record means
 
 -- the sample that a layout describes
 abbrev pub sampleOf : declared.Layout → Sample
@@ -24,12 +29,49 @@ subsetsOf (b ∷ bases) (c ∷ counts) = (b * 256 + c) ∷ subsetsOf bases count
 abbrev pub mappingOf : declaredDimmer.Dimmer → Mapping
 mappingOf d = record { base = d .base; subsets = subsetsOf (take (d .count) (d .bases)) (take (d .count) (d .counts)) }
 
--- the counts are within the arrays
-abbrev pub soundLayout : declared.Layout → Type 0
-soundLayout l = (l .width ≤ 32) × (l .colours ≤ 8)
+-- ---- the record that the checks of tags leave: as document 01 has each array's limit, with 0 after what is used
 
-abbrev pub soundDimmer : declaredDimmer.Dimmer → Type 0
-soundDimmer d = d .count ≤ 32
+-- a list filled up with 0 to n elements
+unfoldable pub padded : ℕ → List ℕ → List ℕ
+padded n l = l ++ replicate (n - length l) 0
+
+-- the layout of a sample
+abbrev pub layoutOf : Sample → declared.Layout
+layoutOf s =
+    record {
+      roles = padded octetLimit (s .roles);
+      waves = padded colourLimit (s .waves);
+      space = s .space;
+      width = length (s .roles);
+      colours = length (s .waves);
+    }
+
+-- the dimmer record of a mapping
+abbrev pub dimmerOf : Mapping → declaredDimmer.Dimmer
+dimmerOf m =
+    record {
+      bases = padded subsetLimit (map baseOf (m .subsets));
+      counts = padded subsetLimit (map countOf (m .subsets));
+      base = m .base;
+      count = length (m .subsets);
+    }
+
+-- a layout and a mapping that say nothing
+abbrev pub emptyLayout : declared.Layout
+emptyLayout = layoutOf noSample
+
+abbrev pub emptyDimmer : declaredDimmer.Dimmer
+emptyDimmer = dimmerOf noMapping
+
+-- what the checks of tags answer, whole; the dictionary check also as a C host is answered
+abbrev pub dictionaryChecked : ℕ → List ℕ → declaredChecked.Checked
+dictionaryChecked mode tags = record { number = dictionaryNumber mode tags; layout = layoutOf (dictionarySample mode tags) }
+
+abbrev pub hostChecked : ℕ → List ℕ → declaredChecked.Checked
+hostChecked mode tags = record { number = hostNumber mode tags; layout = layoutOf (hostSample mode tags) }
+
+abbrev pub dimmerMapped : List ℕ → declaredMapped.Mapped
+dimmerMapped tags = record { number = dimmerNumber tags; dimmer = dimmerOf (dimmerMapping tags) }
 
 -- ---- for a layer that keeps such records
 
@@ -40,19 +82,20 @@ blankLayout = record { roles = []; waves = []; space = 0; width = 0; colours = 0
 abbrev pub blankDimmer : declaredDimmer.Dimmer
 blankDimmer = record { bases = []; counts = []; base = 0; count = 0 }
 
--- a layout and a mapping that say nothing
-abbrev pub emptyLayout : declared.Layout
-emptyLayout = record { roles = replicate 32 0; waves = replicate 8 0; space = 0; width = 0; colours = 0 }
+-- the counts are within the arrays
+abbrev pub LayoutWithin : declared.Layout → Type 0
+LayoutWithin l = (l .width ≤ octetLimit) × (l .colours ≤ colourLimit)
 
-abbrev pub emptyDimmer : declaredDimmer.Dimmer
-emptyDimmer = record { bases = replicate 32 0; counts = replicate 32 0; base = 0; count = 0 }
+abbrev pub DimmerWithin : declaredDimmer.Dimmer → Type 0
+DimmerWithin d = d .count ≤ subsetLimit
 
--- the tests that a kept record is held to: counts within their arrays, and a mapping that the check of dimmer tags can leave
+-- The tests that a kept record is held to: counts within their arrays, and the base and each subset of a mapping in range. What the
+-- checks of tags leave passes (specs/LayoutLaws.antt), but more passes: subsets that overlap, or a base beside subsets.
 unfoldable pub layoutSound : declared.Layout → Bool
-layoutSound l = leb (l .width) 32 && leb (l .colours) 8
+layoutSound l = leb (l .width) octetLimit && leb (l .colours) colourLimit
 
 unfoldable pub dimmerSound : declaredDimmer.Dimmer → Bool
-dimmerSound d = leb (d .count) 32 && mappingInRange (mappingOf d)
+dimmerSound d = leb (d .count) subsetLimit && mappingInRange (mappingOf d)
 
 -- a sample has an octet
 unfoldable pub hasOctets : declared.Layout → Bool

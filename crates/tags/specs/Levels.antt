@@ -5,6 +5,7 @@ use mathlib.Core.Bool.{Bool, cond, not, _&&_, _||_}
 use mathlib.Core.List.{List, [], _∷_, _++_}
 use lib.ListN.{length, take, drop}
 use lib.Dec.{ltb, leb, eqb}
+use Rattle.tags.specs.Limits.{levelEnd, placeCount}
 use Rattle.tags.specs.Dimmer.{Mapping, baseOf, countOf, dropped, mappingInRange}
 
 -- the base of the contiguous set: that of the 42, and "with neither 42 nor 43 the base is 1"
@@ -21,10 +22,10 @@ countSum (e ∷ es) = countOf e + countSum es
 unfoldable pub levelsFit : Mapping → ℕ → Bool
 levelsFit m n =
     cond (eqb (length (m .subsets)) 0)
-    (leb (wholeBase m + n) 513 || dropped (wholeBase m))
+    (leb (wholeBase m + n) levelEnd || dropped (wholeBase m))
     (eqb n (countSum (m .subsets)))
 
--- "Level number b is place b - 1 of the lent levels for mode 4, place 511 + b for mode 6"
+-- "Level number b is place b - 1 of the lent levels for mode 4, place 511 + b for mode 6"; every mode but 6 is taken for 4
 abbrev pub placeOfLevel : ℕ → ℕ → ℕ
 placeOfLevel mode b = cond (eqb mode 6) (511 + b) (b - 1)
 
@@ -66,11 +67,12 @@ levelsDrawn mode m octets levels = cond (levelsFit m (length octets)) (levelsAft
 unfoldable pub levelsCounted : Mapping → ℕ → ℕ
 levelsCounted m n = cond (levelsFit m n) (levelsWritten m n) 0
 
--- ---- for a C host: where fewer than 1,024 places are lent (check 22), or the mapping is none that the check of dimmer tags leaves,
--- nothing is written and 0 are counted
+-- ---- for a C host: where fewer than 1,024 places are lent (check 22), or the base or a subset of the mapping is out of range, nothing is
+-- written and 0 are counted. Only the ranges are asked: of subsets that overlap the later is written last, and a base beside subsets is
+-- not used.
 
 abbrev pub hostRefuses : Mapping → ℕ → Bool
-hostRefuses m lent = ltb lent 1024 || not (mappingInRange m)
+hostRefuses m lent = ltb lent placeCount || not (mappingInRange m)
 
 unfoldable pub hostLevels : ℕ → Mapping → List ℕ → List ℕ → List ℕ
 hostLevels mode m octets levels = cond (hostRefuses m (length levels)) levels (levelsDrawn mode m octets levels)

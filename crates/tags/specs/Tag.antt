@@ -26,6 +26,10 @@ definedGroup w =
 abbrev pub isVoid : ℕ → Bool
 isVoid w = ltb w 16
 
+-- how many words after it the tag skips: "the next n words are skipped unread", and none after a tag of another kind
+abbrev pub skips : ℕ → ℕ
+skips w = cond (isVoid w) w 0
+
 -- 11pp space modifier
 abbrev pub isSpace : ℕ → Bool
 isSpace w = eqb (w / 256) 0x11

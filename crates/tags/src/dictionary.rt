@@ -4,48 +4,51 @@ use super::Checked;
 use super::Layout;
 use super::gather;
 use super::gather::Allowed;
-use super::gather::Progress;
+use super::gather::DictionaryWalk;
+use super::kept::no_layout;
+use super::limits::COLOUR_LIMIT;
+use super::limits::OCTET_LIMIT;
 use super::tag;
 ghost use mathlib.Core.Path.{_≡_};
-ghost use Rattle.tags.specs.Dictionary.{misplaced, repeated, tagNumber, read, step, incomplete, endNumber, dictionaryNumber, dictionarySample};
-ghost use Rattle.tags.specs.Layout.{sampleOf, soundLayout};
-ghost use Rattle.tags.specs.DictionaryView.{beforeOf, walkOf, soundWalk};
+ghost use Rattle.tags.specs.Dictionary.{misplaced, repeated, tagNumber, read, step, incomplete, endNumber};
+ghost use Rattle.tags.specs.Layout.{sampleOf, LayoutWithin, dictionaryChecked};
+ghost use Rattle.tags.specs.DictionaryView.{allowedOf, dictionaryWalkOf, LayoutFilled};
 
 // ---- checks 10 and 11
 
-// Check 10: `left` words stand behind tag w, and a Void may skip no more.
+// Check 10: `left` words stand after tag w, and a Void may skip no more.
 fn misplaced(left: usize, w: u16, a: Allowed) -> bool
-    ensures { λ r. ⌜ r ≡ misplaced left w (beforeOf a) ⌝ }
+    ensures { λ r. ⌜ r ≡ misplaced left w (allowedOf a) ⌝ }
 {
     if w == tag::PRECISION {
-        return a.takes == 0;
+        return !a.precision;
     }
     if w == tag::PREFIXED {
-        return a.waiting == 0;
+        return !a.waiting;
     }
-    (a.waiting == 1) | ((w < 16) & (left < w as usize))
+    a.waiting | (left < tag::skipped_by(w) as usize)
 }
 
-// Check 11. A 33rd octet or a 9th colour is refused here, so a tag that passes has room in the layout.
+// Check 11. An octet or a colour too many is refused here, so a tag that passes has room in the layout.
 fn repeated(w: u16, l: Layout) -> bool
-    requires { ⌜ soundLayout l ⌝ }
+    requires { ⌜ LayoutWithin l ⌝ }
     ensures { λ r. ⌜ r ≡ repeated w (sampleOf l) ⌝ }
 {
     let roles = l.roles;
     let slot = tag::slot_for(w, 0);
     let hint = gather::has_role(roles, l.width, gather::HINT)
         | gather::has_role(roles, l.width, gather::HINT_WITH_SHUTTER);
-    (tag::takes_octet(w) & (32 <= l.width))
-        | (tag::is_colour(w) & (8 <= l.colours))
-        | (tag::is_single(w) & gather::has_role(roles, l.width, slot + 1))
+    (tag::takes_octet(w) & (OCTET_LIMIT <= l.width as usize))
+        | (tag::is_colour(w) & (COLOUR_LIMIT <= l.colours as usize))
+        | (tag::is_single(w) & gather::has_role(roles, l.width, slot + gather::FIRST_OCTET))
         | ((w / 2 == tag::HINTS) & hint)
         | ((w / 256 == tag::SPACE) & !(l.space == 0))
 }
 
-// The number that refuses tag w, 0 where it passes. `left` words stand behind it.
-fn tag_number(mode: u8, left: usize, w: u16, p: Progress) -> u8
-    requires { ⌜ soundWalk p ⌝ }
-    ensures { λ r. ⌜ r ≡ tagNumber mode left w (walkOf p) ⌝ }
+// The number that refuses tag w, 0 where it passes. `left` words stand after it.
+fn tag_number(mode: u8, left: usize, w: u16, p: DictionaryWalk) -> u8
+    requires { ⌜ LayoutFilled (p .layout) ⌝ }
+    ensures { λ r. ⌜ r ≡ tagNumber mode left w (dictionaryWalkOf p) ⌝ }
 {
     let defined = tag::defined_group(w);
     if !defined {
@@ -70,33 +73,33 @@ fn tag_number(mode: u8, left: usize, w: u16, p: Progress) -> u8
 
 // ---- the walk
 
-// The walk with tag w read, behind which `left` words stand.
-fn read(mode: u8, left: usize, w: u16, p: Progress) -> Progress
-    requires { ⌜ soundWalk p ⌝ }
-    ensures { λ r. ⌜ walkOf r ≡ read mode left w (walkOf p) ⌝ }
-    ensures { λ r. ⌜ soundWalk r ⌝ }
+// The walk with tag w read, after which `left` words stand.
+fn read(mode: u8, left: usize, w: u16, p: DictionaryWalk) -> DictionaryWalk
+    requires { ⌜ LayoutFilled (p .layout) ⌝ }
+    ensures { λ r. ⌜ dictionaryWalkOf r ≡ read mode left w (dictionaryWalkOf p) ⌝ }
+    ensures { λ r. ⌜ LayoutFilled (r .layout) ⌝ }
 {
     let number = tag_number(mode, left, w, p);
     let passes = number == 0;
     if passes {
         let layout = gather::layout_with(w, p);
-        let allowed = gather::allowed_behind(w, p);
+        let allowed = gather::allowed_after(w, p);
         let skip = tag::skipped_by(w);
-        return Progress {
+        return DictionaryWalk {
             layout,
             skip,
             refusal: 0,
             allowed,
         };
     }
-    gather::bare(number)
+    gather::nothing_read(number)
 }
 
 // One word more: a refusal stays, a word that a Void skips is not read.
-fn step(mode: u8, left: usize, w: u16, p: Progress) -> Progress
-    requires { ⌜ soundWalk p ⌝ }
-    ensures { λ r. ⌜ walkOf r ≡ step mode left w (walkOf p) ⌝ }
-    ensures { λ r. ⌜ soundWalk r ⌝ }
+fn step(mode: u8, left: usize, w: u16, p: DictionaryWalk) -> DictionaryWalk
+    requires { ⌜ LayoutFilled (p .layout) ⌝ }
+    ensures { λ r. ⌜ dictionaryWalkOf r ≡ step mode left w (dictionaryWalkOf p) ⌝ }
+    ensures { λ r. ⌜ LayoutFilled (r .layout) ⌝ }
 {
     if p.refusal == 0 {
         if p.skip == 0 {
@@ -113,7 +116,7 @@ fn step(mode: u8, left: usize, w: u16, p: Progress) -> Progress
 
 // Check 12.
 fn incomplete(l: Layout) -> bool
-    requires { ⌜ soundLayout l ⌝ }
+    requires { ⌜ LayoutWithin l ⌝ }
     ensures { λ r. ⌜ r ≡ incomplete (sampleOf l) ⌝ }
 {
     let roles = l.roles;
@@ -123,13 +126,13 @@ fn incomplete(l: Layout) -> bool
 }
 
 // The number of the whole dictionary: the first tag's that is refused, else an unfinished prefix's, else check 12's.
-fn end_number(p: Progress) -> u8
-    requires { ⌜ soundWalk p ⌝ }
-    ensures { λ r. ⌜ r ≡ endNumber (walkOf p) ⌝ }
+fn end_number(p: DictionaryWalk) -> u8
+    requires { ⌜ LayoutFilled (p .layout) ⌝ }
+    ensures { λ r. ⌜ r ≡ endNumber (dictionaryWalkOf p) ⌝ }
 {
     let layout = p.layout;
     let missing = incomplete(layout);
-    let unfinished = p.allowed.waiting == 1;
+    let unfinished = p.allowed.waiting;
     if p.refusal == 0 {
         if unfinished {
             return 10;
@@ -142,14 +145,12 @@ fn end_number(p: Progress) -> u8
     p.refusal
 }
 
-// The dictionary check. The walk goes on behind a refusal, which stays.
+// The dictionary check. The walk goes on after a refusal, which stays.
 pub fn check(mode: u8, tags: &[u8]) -> Checked
-    ensures { λ r. ⌜ r .number ≡ dictionaryNumber mode (now (tags .entry)) ⌝ }
-    ensures { λ r. ⌜ sampleOf (r .layout) ≡ dictionarySample mode (now (tags .entry)) ⌝ }
-    ensures { λ r. ⌜ soundLayout (r .layout) ⌝ }
+    ensures { λ r. ⌜ r ≡ dictionaryChecked mode (now (tags .entry)) ⌝ }
 {
     let words = tags.len() / 2;
-    let mut p = gather::bare(0);
+    let mut p = gather::nothing_read(0);
     let mut i: usize = 0;
     while i < words {
         let w = tag::word(tags[i * 2], tags[i * 2 + 1]);
@@ -164,6 +165,6 @@ pub fn check(mode: u8, tags: &[u8]) -> Checked
     }
     Checked {
         number,
-        layout: gather::no_layout(),
+        layout: no_layout(),
     }
 }

@@ -1,18 +1,23 @@
 // Dimmer tags, checks 13 and 14 (document 01, "Dimmer tags, modes 4 and 6"). The octets are taken one by one: a tag says how many
-// octets behind it are its own, and these are passed over. specs/Dimmer.antt has the same walk as definitions.
+// octets after it are its own, and these are passed over. specs/Dimmer.antt has the same walk as definitions.
 use crate::Dimmer;
 use crate::Mapped;
+use crate::kept::no_dimmer;
+use crate::limits::DROP_BASE;
+use crate::limits::LAST_LEVEL;
+use crate::limits::LEVEL_END;
+use crate::limits::SUBSET_LIMIT;
 ghost use mathlib.Core.Path.{_≡_};
 ghost use mathlib.Core.Bool.{false};
 ghost use Prim.Native.Nat.{_+_, _*_, _<_, _≤_};
 ghost use lib.ListN.{length, getD};
-ghost use Rattle.tags.specs.Dimmer.{dimmerNumber, dimmerMapping, stepDimmer, readDimmer, badDimmerTag, clashingTag, mappingWith, overlap, overlapsAny, pairAt, baseInRange, countInRange};
-ghost use Rattle.tags.specs.Layout.{mappingOf, soundDimmer};
-ghost use Rattle.tags.specs.Dimming.{dimmingOf, refusedWith, unread};
+ghost use Rattle.tags.specs.Dimmer.{nothingMapped, stepDimmer, readDimmer, badDimmerTag, clashingTag, mappingWith, overlap, overlapsAny, pairAt, baseInRange, countInRange};
+ghost use Rattle.tags.specs.Layout.{mappingOf, DimmerWithin, dimmerMapped};
+ghost use Rattle.tags.specs.DimmerView.{dimmerWalkOf, DimmerFilled, unread};
 
 // The walk: the refusal, 0 so far; how many octets are still to be passed over; what the tags so far say.
-struct Walk {
-    number: u8,
+struct DimmerWalk {
+    refusal: u8,
     skip: u8,
     dimmer: Dimmer,
 }
@@ -38,13 +43,13 @@ fn pair_at(tags: &[u8], i: usize) -> u16
 pub fn base_in_range(base: u16) -> bool
     ensures { λ r. ⌜ r ≡ baseInRange base ⌝ }
 {
-    (base >= 1) & (base <= 512) | (base == 0xFFFF)
+    (base >= 1) & (base <= LAST_LEVEL) | (base == DROP_BASE)
 }
 
 pub fn count_in_range(base: u16, count: u8) -> bool
     ensures { λ r. ⌜ r ≡ countInRange base count ⌝ }
 {
-    (count >= 1) & ((base as u32 + count as u32 <= 513) | (base == 0xFFFF))
+    (count >= 1) & ((base as usize + count as usize <= LEVEL_END) | (base == DROP_BASE))
 }
 
 // Check 13 at the tag in place i. The low four bits of each tag say how many operands it has.
@@ -69,12 +74,15 @@ fn share(base: u16, count: u8, other: u16, others: u8) -> bool
 {
     let end = base as u32 + count as u32;
     let other_end = other as u32 + others as u32;
-    !(base == 0xFFFF) & !(other == 0xFFFF) & ((base as u32) < other_end) & ((other as u32) < end)
+    !(base == DROP_BASE)
+        & !(other == DROP_BASE)
+        & ((base as u32) < other_end)
+        & ((other as u32) < end)
 }
 
 // whether a subset shares a level with one of the subsets so far
 fn shares_any(base: u16, count: u8, dimmer: Dimmer) -> bool
-    requires { ⌜ soundDimmer dimmer ⌝ }
+    requires { ⌜ DimmerWithin dimmer ⌝ }
     ensures { λ r. ⌜ r ≡ overlapsAny (base * 256 + count) (mappingOf dimmer .subsets) ⌝ }
 {
     let n = dimmer.count as usize;
@@ -89,22 +97,23 @@ fn shares_any(base: u16, count: u8, dimmer: Dimmer) -> bool
 
 // check 14 at the tag in place i
 fn clashes(tags: &[u8], i: usize, dimmer: Dimmer) -> bool
-    requires { ⌜ (i < length (now tags)) × soundDimmer dimmer ⌝ }
+    requires { ⌜ (i < length (now tags)) × DimmerWithin dimmer ⌝ }
     ensures { λ r. ⌜ r ≡ clashingTag (now (tags .entry)) i (mappingOf dimmer) ⌝ }
 {
     let tag = tags[i];
     let whole = !(dimmer.base == 0);
     let count = dimmer.count;
     let hit = shares_any(pair_at(tags, i + 1), at(tags, i + 3), dimmer);
-    (tag == 0x42) & (whole | (0 < count)) | (tag == 0x43) & (whole | (32 <= count) | hit)
+    (tag == 0x42) & (whole | (0 < count))
+        | (tag == 0x43) & (whole | (SUBSET_LIMIT <= count as usize) | hit)
 }
 
 // what the tags say with the tag in place i, which passes both checks
 fn with(tags: &[u8], i: usize, dimmer: Dimmer) -> Dimmer
-    requires { ⌜ (i < length (now tags)) × soundDimmer dimmer ⌝ }
+    requires { ⌜ (i < length (now tags)) × DimmerFilled dimmer ⌝ }
     requires { ⌜ clashingTag (now tags) i (mappingOf dimmer) ≡ false ⌝ }
     ensures { λ r. ⌜ mappingOf r ≡ mappingWith (now (tags .entry)) i (mappingOf dimmer) ⌝ }
-    ensures { λ r. ⌜ soundDimmer r ⌝ }
+    ensures { λ r. ⌜ DimmerFilled r ⌝ }
 {
     let tag = tags[i];
     let mut next = dimmer;
@@ -122,49 +131,46 @@ fn with(tags: &[u8], i: usize, dimmer: Dimmer) -> Dimmer
     next
 }
 
-// the walk at its start, or at a refusal
-fn stopped(number: u8) -> Walk
-    ensures { λ r. ⌜ (dimmingOf r ≡ refusedWith number) × soundDimmer (r .dimmer) ⌝ }
+// the walk with nothing mapped: at its start with 0, and after a refusal with its number
+fn nothing_mapped(refusal: u8) -> DimmerWalk
+    ensures { λ r. ⌜ dimmerWalkOf r ≡ nothingMapped refusal ⌝ }
+    ensures { λ r. ⌜ DimmerFilled (r .dimmer) ⌝ }
 {
-    Walk {
-        number,
+    let dimmer = no_dimmer();
+    DimmerWalk {
+        refusal,
         skip: 0,
-        dimmer: Dimmer {
-            bases: [0; 32],
-            counts: [0; 32],
-            base: 0,
-            count: 0,
-        },
+        dimmer,
     }
 }
 
 // the tag in place i read
-fn read(tags: &[u8], i: usize, dimmer: Dimmer) -> Walk
-    requires { ⌜ (i < length (now tags)) × soundDimmer dimmer ⌝ }
-    ensures { λ r. ⌜ dimmingOf r ≡ readDimmer (now (tags .entry)) i (unread (mappingOf dimmer)) ⌝ }
-    ensures { λ r. ⌜ soundDimmer (r .dimmer) ⌝ }
+fn read(tags: &[u8], i: usize, dimmer: Dimmer) -> DimmerWalk
+    requires { ⌜ (i < length (now tags)) × DimmerFilled dimmer ⌝ }
+    ensures { λ r. ⌜ dimmerWalkOf r ≡ readDimmer (now (tags .entry)) i (unread (mappingOf dimmer)) ⌝ }
+    ensures { λ r. ⌜ DimmerFilled (r .dimmer) ⌝ }
 {
     if bad(tags, i) {
-        return stopped(13);
+        return nothing_mapped(13);
     }
     if clashes(tags, i, dimmer) {
-        return stopped(14);
+        return nothing_mapped(14);
     }
     let next = with(tags, i, dimmer);
-    Walk {
-        number: 0,
+    DimmerWalk {
+        refusal: 0,
         skip: tags[i] % 16,
         dimmer: next,
     }
 }
 
 // one octet more
-fn step(tags: &[u8], i: usize, s: Walk) -> Walk
-    requires { ⌜ (i < length (now tags)) × soundDimmer (s .dimmer) ⌝ }
-    ensures { λ r. ⌜ dimmingOf r ≡ stepDimmer (now (tags .entry)) i (dimmingOf s) ⌝ }
-    ensures { λ r. ⌜ soundDimmer (r .dimmer) ⌝ }
+fn step(tags: &[u8], i: usize, s: DimmerWalk) -> DimmerWalk
+    requires { ⌜ (i < length (now tags)) × DimmerFilled (s .dimmer) ⌝ }
+    ensures { λ r. ⌜ dimmerWalkOf r ≡ stepDimmer (now (tags .entry)) i (dimmerWalkOf s) ⌝ }
+    ensures { λ r. ⌜ DimmerFilled (r .dimmer) ⌝ }
 {
-    if s.number != 0 {
+    if s.refusal != 0 {
         return s;
     }
     if s.skip == 0 {
@@ -178,11 +184,9 @@ fn step(tags: &[u8], i: usize, s: Walk) -> Walk
 
 // The tags of a configuration in mode 4 or 6: the refusal, 13 or 14, or what they say.
 pub fn check(tags: &[u8]) -> Mapped
-    ensures { λ r. ⌜ r .number ≡ dimmerNumber (now (tags .entry)) ⌝ }
-    ensures { λ r. ⌜ mappingOf (r .dimmer) ≡ dimmerMapping (now (tags .entry)) ⌝ }
-    ensures { λ r. ⌜ soundDimmer (r .dimmer) ⌝ }
+    ensures { λ r. ⌜ r ≡ dimmerMapped (now (tags .entry)) ⌝ }
 {
-    let mut s = stopped(0);
+    let mut s = nothing_mapped(0);
     let mut i = 0;
     while i < tags.len() {
         s = step(tags, i, s);
@@ -190,7 +194,7 @@ pub fn check(tags: &[u8]) -> Mapped
     }
     let dimmer = s.dimmer;
     Mapped {
-        number: s.number,
+        number: s.refusal,
         dimmer,
     }
 }

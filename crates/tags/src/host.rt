@@ -5,30 +5,30 @@ use super::Layout;
 use super::Mapped;
 use super::dictionary;
 use super::dimming;
+use super::kept::no_layout;
 use super::levels;
+use super::limits::PLACE_COUNT;
+use super::limits::TAG_OCTET_LIMIT;
 use super::rows;
 ghost use mathlib.Core.Path.{_≡_};
 ghost use mathlib.Core.Bool.{cond};
 ghost use lib.ListN.{length};
-ghost use Rattle.samples.specs.Points.{pointsIn, litIn, drawnOver, roomFor};
-ghost use Rattle.tags.specs.Dictionary.{noSample, hostNumber, hostSample, hostCheck};
-ghost use Rattle.tags.specs.Dimmer.{dimmerNumber, dimmerMapping};
-ghost use Rattle.tags.specs.Layout.{sampleOf, mappingOf, soundLayout, soundDimmer};
+ghost use Rattle.samples.specs.Points.{litPointsIn, drawnOver, roomFor};
+ghost use Rattle.tags.specs.Dictionary.{hostCheck};
+ghost use Rattle.tags.specs.Layout.{sampleOf, mappingOf, emptyLayout, hostChecked, dimmerMapped};
 ghost use Rattle.tags.specs.Levels.{hostLevels, hostWritten};
 
 // The dictionary check with the layout that it leaves: 6 for modes but 1 and 2, then 5 for odd lengths or above 1,020, then 8 to 12; 0
-// with the layout.
+// with the layout. The arrays hold 0 after `width` and `colours`, and all of the layout is 0 with a refusal.
 #[no_mangle]
 pub extern "C" fn mewkoast_layout(mode: u32, tags: &[u8]) -> Checked
-    ensures { λ r. ⌜ r .number ≡ hostNumber mode (now (tags .entry)) ⌝ }
-    ensures { λ r. ⌜ sampleOf (r .layout) ≡ hostSample mode (now (tags .entry)) ⌝ }
-    ensures { λ r. ⌜ soundLayout (r .layout) ⌝ }
+    ensures { λ r. ⌜ r ≡ hostChecked mode (now (tags .entry)) ⌝ }
 {
     let graphic = (mode == 1) | (mode == 2);
     if !graphic {
         return unlaid(6);
     }
-    let fits = (tags.len() % 2 == 0) & (tags.len() <= 1020);
+    let fits = (tags.len() % 2 == 0) & (tags.len() <= TAG_OCTET_LIMIT);
     if !fits {
         return unlaid(5);
     }
@@ -37,17 +37,9 @@ pub extern "C" fn mewkoast_layout(mode: u32, tags: &[u8]) -> Checked
 
 // A refusal, with a layout that says nothing.
 fn unlaid(number: u8) -> Checked
-    ensures { λ r. ⌜ r .number ≡ number ⌝ }
-    ensures { λ r. ⌜ sampleOf (r .layout) ≡ noSample ⌝ }
-    ensures { λ r. ⌜ soundLayout (r .layout) ⌝ }
+    ensures { λ r. ⌜ r ≡ record { number = number; layout = emptyLayout } ⌝ }
 {
-    let layout = Layout {
-        roles: [0u8; 32],
-        waves: [0u16; 8],
-        space: 0,
-        width: 0,
-        colours: 0,
-    };
+    let layout = no_layout();
     Checked { number, layout }
 }
 
@@ -69,23 +61,22 @@ pub extern "C" fn mewkoast_dictionary(mode: u32, tags: &[u8]) -> u32
 #[no_mangle]
 pub extern "C" fn mewkoast_draw(layout: Layout, octets: &[u8], rows: &mut [i32]) -> usize
     ensures { λ r. ⌜ now (rows .exit) ≡ cond (roomFor (sampleOf layout .roles) (now (octets .entry)) (now (rows .entry))) (drawnOver (sampleOf layout .roles) (sampleOf layout .waves) (now (octets .entry)) (now (rows .entry))) (now (rows .entry)) ⌝ }
-    ensures { λ r. ⌜ r ≡ cond (roomFor (sampleOf layout .roles) (now (octets .entry)) (now (rows .entry))) (litIn (sampleOf layout .roles) (now (octets .entry)) (pointsIn (sampleOf layout .roles) (now (octets .entry)))) 0 ⌝ }
+    ensures { λ r. ⌜ r ≡ cond (roomFor (sampleOf layout .roles) (now (octets .entry)) (now (rows .entry))) (litPointsIn (sampleOf layout .roles) (now (octets .entry))) 0 ⌝ }
 {
     rows::draw(layout, octets, rows)
 }
 
-// The check of dimmer tags with the mapping that it leaves.
+// The check of dimmer tags with the mapping that it leaves. The arrays hold 0 after `count`, and all of the mapping is 0 with a refusal.
 #[no_mangle]
 pub extern "C" fn mewkoast_mapping(tags: &[u8]) -> Mapped
-    ensures { λ r. ⌜ r .number ≡ dimmerNumber (now (tags .entry)) ⌝ }
-    ensures { λ r. ⌜ mappingOf (r .dimmer) ≡ dimmerMapping (now (tags .entry)) ⌝ }
-    ensures { λ r. ⌜ soundDimmer (r .dimmer) ⌝ }
+    ensures { λ r. ⌜ r ≡ dimmerMapped (now (tags .entry)) ⌝ }
 {
     dimming::check(tags)
 }
 
 // Levels to places by a mapping: the count written; nothing, and 0, where check 21 does not pass, fewer than 1,024 places are lent, or the
-// mapping is none that the check of dimmer tags leaves.
+// base or a subset of the mapping is out of range. Only the ranges are asked: subsets that overlap are written in turn, and a base beside
+// subsets is not used.
 #[no_mangle]
 pub extern "C" fn mewkoast_levels(
     dimmer: Dimmer,
@@ -96,7 +87,7 @@ pub extern "C" fn mewkoast_levels(
     ensures { λ r. ⌜ now (levels .exit) ≡ hostLevels mode (mappingOf dimmer) (now (octets .entry)) (now (levels .entry)) ⌝ }
     ensures { λ r. ⌜ r ≡ hostWritten (mappingOf dimmer) (length (now (octets .entry))) (length (now (levels .entry))) ⌝ }
 {
-    let refused = (levels.len() < 1024) | !levels::in_range(dimmer);
+    let refused = (levels.len() < PLACE_COUNT) | !levels::in_range(dimmer);
     if refused {
         return 0;
     }

@@ -2,6 +2,9 @@
 use super::Dimmer;
 use super::Layout;
 use super::levels;
+use super::limits::COLOUR_LIMIT;
+use super::limits::OCTET_LIMIT;
+use super::limits::SUBSET_LIMIT;
 ghost use mathlib.Core.Path.{_≡_};
 ghost use Rattle.tags.specs.Layout.{sampleOf, emptyLayout, emptyDimmer, layoutSound, dimmerSound, hasOctets};
 
@@ -10,8 +13,8 @@ pub fn no_layout() -> Layout
     ensures { λ r. ⌜ r ≡ emptyLayout ⌝ }
 {
     Layout {
-        roles: [0u8; 32],
-        waves: [0u16; 8],
+        roles: [0u8; OCTET_LIMIT],
+        waves: [0u16; COLOUR_LIMIT],
         space: 0,
         width: 0,
         colours: 0,
@@ -23,25 +26,25 @@ pub fn no_dimmer() -> Dimmer
     ensures { λ r. ⌜ r ≡ emptyDimmer ⌝ }
 {
     Dimmer {
-        bases: [0u16; 32],
-        counts: [0u8; 32],
+        bases: [0u16; SUBSET_LIMIT],
+        counts: [0u8; SUBSET_LIMIT],
         base: 0,
         count: 0,
     }
 }
 
 // The counts of a layout are within its arrays.
-pub fn sound_layout(layout: Layout) -> bool
+pub fn layout_sound(layout: Layout) -> bool
     ensures { λ r. ⌜ r ≡ layoutSound layout ⌝ }
 {
-    (layout.width <= 32) & (layout.colours <= 8)
+    (layout.width as usize <= OCTET_LIMIT) & (layout.colours as usize <= COLOUR_LIMIT)
 }
 
 // The count of a mapping is within its arrays, and its bases and counts are in range.
-pub fn sound_dimmer(dimmer: Dimmer) -> bool
+pub fn dimmer_sound(dimmer: Dimmer) -> bool
     ensures { λ r. ⌜ r ≡ dimmerSound dimmer ⌝ }
 {
-    (dimmer.count <= 32) & levels::in_range(dimmer)
+    (dimmer.count as usize <= SUBSET_LIMIT) & levels::in_range(dimmer)
 }
 
 // A sample has an octet.

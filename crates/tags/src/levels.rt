@@ -1,26 +1,31 @@
 // Levels to places (document 01, "Dimmer tags, modes 4 and 6" and check 21): the octets of a dimmer chunk go to the lent levels as
-// the mapping says. specs/Levels.antt has the definitions. Any dimmer record is taken: a count above 32 is read as 32.
+// the mapping says. specs/Levels.antt has the definitions. Any dimmer record is taken: a count above its arrays is read as their length.
 use crate::Dimmer;
 use crate::dimming::base_in_range;
 use crate::dimming::count_in_range;
+use crate::limits::DROP_BASE;
+use crate::limits::LEVEL_END;
+use crate::limits::SUBSET_LIMIT;
 ghost use mathlib.Core.Path.{_≡_};
 ghost use mathlib.Core.Bool.{cond, _||_};
 ghost use mathlib.Core.List.{_++_};
 ghost use Prim.Native.Nat.{_+_, _<_, _≤_, _^_, min};
 ghost use lib.ListN.{length, take, drop};
 ghost use lib.Dec.{leb};
+ghost use Rattle.tags.specs.Limits.{subsetLimit, levelEnd};
 ghost use Rattle.tags.specs.Dimmer.{dropped, mappingInRange};
 ghost use Rattle.tags.specs.Layout.{mappingOf};
 ghost use Rattle.tags.specs.Levels.{wholeBase, countSum, mappedSum, levelsFit, placeOfLevel, putLevels, putSubsets, levelsDrawn, levelsCounted};
 
 // how many subsets the record holds
 fn held(dimmer: Dimmer) -> usize
-    ensures { λ r. ⌜ (r ≡ length (mappingOf dimmer .subsets)) × (r ≡ min (dimmer .count) 32) ⌝ }
+    ensures { λ r. ⌜ (r ≡ length (mappingOf dimmer .subsets)) × (r ≡ min (dimmer .count) subsetLimit) ⌝ }
 {
-    if dimmer.count < 32 {
-        return dimmer.count as usize;
+    let count = dimmer.count as usize;
+    if count < SUBSET_LIMIT {
+        return count;
     }
-    32
+    SUBSET_LIMIT
 }
 
 // the base of the contiguous set, where there is no 43
@@ -33,15 +38,15 @@ fn whole_base(dimmer: Dimmer) -> u16
     dimmer.base
 }
 
-// Check 21 without 43. Above 513 octets no base is added, so that no sum wraps.
+// Check 21 without 43. Above LEVEL_END octets no base is added, so that no sum wraps.
 fn whole_fits(base: u16, octets: usize) -> bool
-    ensures { λ r. ⌜ r ≡ (leb (base + octets) 513 || dropped base) ⌝ }
+    ensures { λ r. ⌜ r ≡ (leb (base + octets) levelEnd || dropped base) ⌝ }
 {
-    let drops = base == 0xFFFF;
-    if 513 < octets {
+    let drops = base == DROP_BASE;
+    if LEVEL_END < octets {
         return drops;
     }
-    (base as usize + octets <= 513) | drops
+    (base as usize + octets <= LEVEL_END) | drops
 }
 
 // the octets that the subsets describe, dropped ones included
@@ -72,14 +77,14 @@ pub fn fit(dimmer: Dimmer, octets: usize) -> bool
 fn counted(base: u16, octets: usize) -> usize
     ensures { λ r. ⌜ r ≡ cond (dropped base) 0 octets ⌝ }
 {
-    let dropped = base == 0xFFFF;
+    let dropped = base == DROP_BASE;
     if dropped {
         return 0;
     }
     octets
 }
 
-// the place of level number `base`: mode 6 has the upper half of the levels
+// the place of level number `base`: mode 6 has the upper half of the levels, and every other mode is taken for 4
 fn place_of(mode: u8, base: u16) -> usize
     ensures { λ r. ⌜ (r ≡ placeOfLevel mode base) × (r < 2 ^ 17) ⌝ }
 {
@@ -108,7 +113,7 @@ fn copy(part: &[u8], levels: &mut [u8], place: usize)
 fn put(mode: u8, base: u16, part: &[u8], levels: &mut [u8])
     ensures { λ _. ⌜ now (levels .exit) ≡ putLevels mode base (now (part .entry)) (now (levels .entry)) ⌝ }
 {
-    if base == 0xFFFF {
+    if base == DROP_BASE {
         return;
     }
     let place = place_of(mode, base);
@@ -158,8 +163,8 @@ pub fn write(dimmer: Dimmer, mode: u8, octets: &[u8], levels: &mut [u8]) -> usiz
     put_subsets(dimmer, mode, octets, levels)
 }
 
-// Whether a mapping is one that the check of dimmer tags can leave: its base and each subset in range. A record that a host kept is held
-// to it.
+// Whether the base of a mapping, or 0 without one, and each subset are in range, as check 13 leaves them. A record that a host kept is
+// held to it.
 pub fn in_range(dimmer: Dimmer) -> bool
     ensures { λ r. ⌜ r ≡ mappingInRange (mappingOf dimmer) ⌝ }
 {

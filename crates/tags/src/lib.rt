@@ -6,15 +6,20 @@ mod gather;
 pub mod host;
 pub mod kept;
 pub mod levels;
+pub mod limits;
 pub mod rows;
 mod tag;
+
+use limits::COLOUR_LIMIT;
+use limits::OCTET_LIMIT;
+use limits::SUBSET_LIMIT;
 
 // What a sample's octets are for, as a dictionary says: a role for each of `width` octets, the wavelengths of `colours` colours (0
 // where a prefix gives it) and the space modifier's word (0 if none). specs/Layout.antt says how it is read.
 #[repr(C)]
 pub struct Layout {
-    pub roles: [u8; 32],
-    pub waves: [u16; 8],
+    pub roles: [u8; OCTET_LIMIT],
+    pub waves: [u16; COLOUR_LIMIT],
     pub space: u16,
     pub width: u8,
     pub colours: u8,
@@ -23,8 +28,8 @@ pub struct Layout {
 // Where levels go, as dimmer tags say: the base of a 42 (0 without one) and `count` subsets of 43s, each a base and a count.
 #[repr(C)]
 pub struct Dimmer {
-    pub bases: [u16; 32],
-    pub counts: [u8; 32],
+    pub bases: [u16; SUBSET_LIMIT],
+    pub counts: [u8; SUBSET_LIMIT],
     pub base: u16,
     pub count: u8,
 }

@@ -1,33 +1,42 @@
 // Samples to rows, by the layout that a dictionary gave (document 01, "One row"). The decoding itself is the crate `samples`; here a
 // layout is read by what it means.
 use super::Layout;
+use super::limits::OCTET_LIMIT;
 ghost use mathlib.Core.Path.{_≡_};
 ghost use mathlib.Core.Bool.{cond};
-ghost use Prim.Native.Nat.{_/_, _%_};
+ghost use Prim.Native.Nat.{_%_};
 ghost use lib.ListN.{length};
 ghost use lib.Dec.{eqb};
-ghost use Rattle.samples.specs.Points.{pointsIn, litIn, drawnOver, roomFor};
+ghost use Rattle.samples.specs.Points.{samplesOf, pointsFor, litPointsIn, drawnOver, roomFor};
 ghost use Rattle.tags.specs.Layout.{sampleOf};
 
-// The octets of a sample, of which the layout has at most 32.
+// The octets of a sample, of which a layout has at most OCTET_LIMIT.
 fn octets_of(layout: Layout) -> usize
     ensures { λ r. ⌜ r ≡ length (sampleOf layout .roles) ⌝ }
 {
-    if layout.width < 32 {
-        return layout.width as usize;
+    let width = layout.width as usize;
+    if width < OCTET_LIMIT {
+        return width;
     }
-    32
+    OCTET_LIMIT
 }
 
 // How many whole samples that many octets hold.
-pub fn points(layout: Layout, octets: usize) -> usize
-    ensures { λ r. ⌜ r ≡ octets / length (sampleOf layout .roles) ⌝ }
+pub fn samples(layout: Layout, octets: usize) -> usize
+    ensures { λ r. ⌜ r ≡ samplesOf (length (sampleOf layout .roles)) octets ⌝ }
 {
     let width = octets_of(layout);
     if width == 0 {
         return 0;
     }
     octets / width
+}
+
+// How many points so many samples are: each sample is one.
+pub fn points(samples: usize) -> usize
+    ensures { λ r. ⌜ r ≡ pointsFor samples ⌝ }
+{
+    samples
 }
 
 // Whether that many octets are whole samples.
@@ -41,9 +50,9 @@ pub fn whole(layout: Layout, octets: usize) -> bool
     octets % width == 0
 }
 
-// How many of the samples are lit.
+// How many of the points are lit.
 pub fn lit(layout: Layout, octets: &[u8]) -> usize
-    ensures { λ r. ⌜ r ≡ litIn (sampleOf layout .roles) (now (octets .entry)) (pointsIn (sampleOf layout .roles) (now (octets .entry))) ⌝ }
+    ensures { λ r. ⌜ r ≡ litPointsIn (sampleOf layout .roles) (now (octets .entry)) ⌝ }
 {
     let roles = layout.roles;
     samples::lit_points(roles, layout.width as usize, octets)
@@ -52,7 +61,7 @@ pub fn lit(layout: Layout, octets: &[u8]) -> usize
 // The samples written as rows where the lent rows have room, and how many of them are lit; else nothing, and 0.
 pub fn draw(layout: Layout, octets: &[u8], rows: &mut [i32]) -> usize
     ensures { λ r. ⌜ now (rows .exit) ≡ cond (roomFor (sampleOf layout .roles) (now (octets .entry)) (now (rows .entry))) (drawnOver (sampleOf layout .roles) (sampleOf layout .waves) (now (octets .entry)) (now (rows .entry))) (now (rows .entry)) ⌝ }
-    ensures { λ r. ⌜ r ≡ cond (roomFor (sampleOf layout .roles) (now (octets .entry)) (now (rows .entry))) (litIn (sampleOf layout .roles) (now (octets .entry)) (pointsIn (sampleOf layout .roles) (now (octets .entry)))) 0 ⌝ }
+    ensures { λ r. ⌜ r ≡ cond (roomFor (sampleOf layout .roles) (now (octets .entry)) (now (rows .entry))) (litPointsIn (sampleOf layout .roles) (now (octets .entry))) 0 ⌝ }
 {
     let roles = layout.roles;
     let waves = layout.waves;

@@ -1,8 +1,8 @@
 // One tag of a dictionary: a 16-bit word of four nibbles. Each function answers one definition of specs/Tag.antt.
 ghost use mathlib.Core.Path.{_≡_};
-ghost use mathlib.Core.Bool.{cond};
 ghost use Prim.Native.Nat.{_+_, _*_, _≤_};
-ghost use Rattle.tags.specs.Tag.{takesOctet, definedGroup, isVoid, isColour, isSingle, isSignal, reservedSpace, knownTag, slotFor};
+ghost use Rattle.tags.specs.Limits.{colourLimit};
+ghost use Rattle.tags.specs.Tag.{takesOctet, definedGroup, skips, isColour, isSingle, isSignal, reservedSpace, knownTag, slotFor};
 
 // Which of the sixteen categories take an octet of the sample: 4 and 5 do.
 const OCTETS: [u8; 16] = [0, 0, 0, 0, 1, 1, 0, 0, 0, 0, 0, 0, 0, 0, 0, 0];
@@ -99,7 +99,7 @@ pub fn known_tag(mode: u8, w: u16) -> bool
 
 // The row's slot of a signal, where the dictionary has `colours` colours so far.
 pub fn slot_for(w: u16, colours: u8) -> u8
-    requires { ⌜ colours ≤ 8 ⌝ }
+    requires { ⌜ colours ≤ colourLimit ⌝ }
     ensures { λ r. ⌜ r ≡ slotFor w colours ⌝ }
     ensures { λ r. ⌜ r ≤ 24 ⌝ }
 {
@@ -130,9 +130,9 @@ pub fn slot_for(w: u16, colours: u8) -> u8
     colours + 8
 }
 
-// How many words behind it a Void skips; a tag of another kind skips none.
+// How many words after it a Void skips; a tag of another kind skips none.
 pub fn skipped_by(w: u16) -> u16
-    ensures { λ r. ⌜ r ≡ cond (isVoid w) w 0 ⌝ }
+    ensures { λ r. ⌜ r ≡ skips w ⌝ }
 {
     if w < 16 {
         return w;

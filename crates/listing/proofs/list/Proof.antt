@@ -1,61 +1,51 @@
--- `listing::list` is safe and ends. From turn to turn the slices keep their lengths, and the next message, what is read and what is
--- collected stay within theirs. The measure is the number of turns that are left.
-use Prim.Native.Nat.{_+_, _≤_}
+-- `listing::list` is safe and ends: each step finds what it requires in what the step before ensures.
 use native.Mathlib.Omega.{arith}
-use mathlib.Core.Path.{_≡_}
-use lib.ListN.{length, length-take, length-drop}
 use borrow.Author.Needs.{needs}
 use Rattle.listing.proofs.list.Statement.{statement}
 use Rattle.listing.proofs.list.Tie as tie
 
-abbrev Inv-loop : tie.InvT-loop
-Inv-loop octets₀ spare₀ rows₀ levels₀ out₀ receiver₀ at₀ from₀ end₀ size₀ turns₀ octets spare rows levels out receiver at from end size turns =
-    (from + size ≤ end) × (end ≤ length octets) × (65536 ≤ length spare) × (at ≤ length out) × (length octets ≡ length octets₀) × (length spare ≡ length spare₀) × (length rows ≡ length rows₀) × (length levels ≡ length levels₀) × (length out ≡ length out₀)
+-- ---- the steps, each from the one after it
 
-abbrev μ-loop : tie.MeasureT-loop
-μ-loop octets₀ spare₀ rows₀ levels₀ out₀ receiver₀ at₀ from₀ end₀ size₀ turns₀ octets spare rows levels out receiver at from end size turns =
-    turns
+abbrev lent-of : tie.After-list-messages → tie.After-slice-known4
+lent-of c = c .before .before .before .before .before .before
 
-loop-holds : tie.Need-loop-holds Inv-loop μ-loop
-loop-holds c = omega (arith, simp (length-take, length-drop) at (c .entry .ensures .1))
+abbrev start-of : tie.After-list-messages → tie.Start
+start-of c = lent-of c .before .before .before .before
 
-loop-again : tie.Need-loop-again Inv-loop μ-loop
-loop-again c = omega (arith, simp (length-take, length-drop) at (c .entry2 .ensures .1))
+abbrev rows-of : tie.After-cut-count → tie.After-rows
+rows-of c = c .before .before .before .before .before .before
+
+abbrev listed-of : tie.After-cut-count → tie.After-list-messages
+listed-of c = rows-of c .before .before .before .before .before
+
+abbrev count-of : tie.After-put-cut → tie.After-cut-count
+count-of c = c .before .before .before .before
+
+-- ---- the needs
+
+put-cut-requires : tie.Need-put-cut-requires
+put-cut-requires c κs =
+    let l = listed-of (c .before .before .before) in
+    (l .list-messages .ensures .1 .1 .1, omega (arith, l .list-messages .kept .1 .1 .1 .1 .0, start-of l .pre))
+
+put-meters-requires : tie.Need-put-meters-requires
+put-meters-requires c κs =
+    let cut = c .before .before .before in
+    let l = listed-of (count-of cut) in
+    (cut .put-cut .ensures .0 .fits, omega (arith, cut .put-cut .kept .1 .1 .0, l .list-messages .kept .1 .1 .1 .1 .0, start-of l .pre))
 
 pub list-spec : {M : Type 1} → statement M
 list-spec =
     tie.close
     (tie.spec
-    Inv-loop
-    μ-loop
     (λ c κs. search needs)
     (λ c κs. search needs)
-    (λ c. search needs)
-    (λ c. search needs)
-    (λ c. search needs)
-    (λ c κs. search needs)
-    loop-holds
-    (λ c. search needs)
-    (λ c. search needs)
-    (λ c. search needs)
-    (λ c. search needs)
-    (λ c κs. search needs)
-    (λ c κs. search needs)
+    put-cut-requires
+    put-meters-requires
     (λ c κs. search needs)
     (λ c. search needs)
     (λ c. search needs)
     (λ c. search needs)
-    (λ c κs. search needs)
     (λ c. search needs)
     (λ c. search needs)
-    loop-again
-    (λ c. search needs)
-    (λ c κs. search needs)
-    (λ c κs. search needs)
-    (λ c κs. search needs)
-    (λ c. omega arith)
-    (λ c. omega arith)
-    (λ c. omega arith)
-    (λ c. omega arith)
-    (λ c. omega arith)
     (λ c. search needs))

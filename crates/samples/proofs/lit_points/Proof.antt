@@ -1,28 +1,29 @@
--- `lit_points`: the width and the count as the code has them.
+-- `lit_points`: the width and the number of samples as the code has them.
 use native.Mathlib.Omega.{arith}
 use mathlib.Core.Path.{_≡_}
 use mathlib.Core.List.{[]}
 use lib.ListN.{length, take}
 use borrow.Author.Needs.{needs}
-use Rattle.samples.proofs.ChunkLaws.{clamped-length, clamped-take, count-is, count-within}
+use Rattle.samples.specs.Limits.{octetLimit}
+use Rattle.samples.proofs.ChunkLaws.{clamped-length, clamped-take, samples-are, samples-within}
 use Rattle.samples.proofs.lit_points.Statement.{statement}
 use Rattle.samples.proofs.lit_points.Tie as tie
 
 count-requires : tie.Need-count-requires
 count-requires c κs =
     let a = c .before .before .before .before .args in
-    let l : length (a .t1) ≡ 32 = search needs in
+    let l : length (a .t1) ≡ octetLimit = search needs in
     let s = c .before .before .least .ensures in
     let e = clamped-length (a .t1) (a .width) _ l s in
-    (omega (arith, s), omega (arith, s), count-within (take (a .width) (a .t1)) (a .octets .now) [] _ _ e (c .before .whole .ensures))
+    (omega (arith, s), omega (arith, s), samples-within (take (a .width) (a .t1)) (a .octets .now) [] _ _ e (c .before .samples-in .ensures))
 
 returns : tie.Need-returns
 returns c =
     let a = c .before .before .before .before .before .args in
-    let l : length (a .t1) ≡ 32 = search needs in
+    let l : length (a .t1) ≡ octetLimit = search needs in
     let s = c .before .before .before .least .ensures in
     let e = clamped-length (a .t1) (a .width) _ l s in
-    rw (← count-is (take (a .width) (a .t1)) (a .octets .now) [] _ _ e (c .before .before .whole .ensures), ← clamped-take (a .t1) (a .width) _ l s)
+    rw (← samples-are (take (a .width) (a .t1)) (a .octets .now) [] _ _ e (c .before .before .samples-in .ensures), ← clamped-take (a .t1) (a .width) _ l s)
     (c .count .ensures)
 
 pub lit-points-spec : {M : Type 1} → statement M

@@ -1,4 +1,4 @@
--- `lines::text::numbers` meets its contract. The invariant of its loop: the first i numbers, each behind a space, stand at the front of
+-- `lines::text::numbers` meets its contract. The invariant of its loop: the first i numbers, each after a space, stand at the front of
 -- the slice, which is as long as it was. The measure is how many numbers are left.
 use Prim.Native.Nat.{_+_, _-_, _*_, _≤_}
 use native.Mathlib.Omega.{arith}
@@ -25,14 +25,25 @@ loop-holds : tie.Need-loop-holds Inv-loop μ-loop
 unfolding spaced
 loop-holds c = (omega arith, front-none _, refl)
 
+-- ---- the steps, each from the one after it
+
+abbrev start-of : tie.At-loop Inv-loop μ-loop → tie.Start Inv-loop μ-loop
+start-of c = c .before .before .before
+
+abbrev turn-of : tie.After-number Inv-loop μ-loop → tie.In-loop Inv-loop μ-loop
+turn-of c = c .before .before .before
+
+-- ---- the needs
+
 -- there is room for one number more
 room : (c : tie.In-loop Inv-loop μ-loop) → c .before .loop .at + 21 ≤ length (c .before .loop .out)
 room c =
     let i = c .before .loop .i in
-    let ns = now (c .before .before .before .before .args .ns) in
+    let start = start-of (c .before) in
+    let ns = now (start .args .ns) in
     let short : length (spaced (take i ns)) ≤ 21 * length (take i ns) = spaced-short (take i ns) in
     let most : length (take i ns) ≤ i = rw length-take (omega arith) in
-    omega (arith, c .before .before .before .before .pre)
+    omega (arith, start .pre)
 
 sub-number : tie.Need-sub-number Inv-loop μ-loop
 sub-number c = omega (arith, room (c .before))
@@ -42,21 +53,24 @@ number-requires c κs = simp (length-take, length-drop) (omega (arith, room (c .
 
 add-at : tie.Need-add-at Inv-loop μ-loop
 add-at c =
+    let end = c .before .before in
+    let head = turn-of end .before in
     omega (
       arith,
-      room (c .before .before .before .before .before),
-      c .before .before .number .ensures .count,
-      decimal-short (getD (now (c .before .before .before .before .before .before .before .before .before .args .ns)) (c .before .before .before .before .before .before .loop .i) 0),
+      room (turn-of end),
+      end .number .ensures .count,
+      decimal-short (getD (now (start-of head .args .ns)) (head .loop .i) 0),
     )
 
 loop-again : tie.Need-loop-again Inv-loop μ-loop
 loop-again c =
-    let head = c .before .before .before .before .before .before in
-    let ns = now (head .before .before .before .args .ns) in
+    let end = c .before .before in
+    let head = turn-of end .before in
+    let ns = now (start-of head .args .ns) in
     let i = head .loop .i in (
       omega arith,
-      rw (spaced-more ns i (c .before .before .before .before .before .loop-test .taken))
-          (front-more (spaced (take i ns)) (32 ∷ decimal (getD ns i 0)) (head .loop .inv .1) (c .before .before .number .ensures)),
+      rw (spaced-more ns i (turn-of end .loop-test .taken))
+          (front-more (spaced (take i ns)) (32 ∷ decimal (getD ns i 0)) (head .loop .inv .1) (end .number .ensures)),
       c .before .out .given .1 ∙ head .loop .inv .2,
     )
 
@@ -65,7 +79,7 @@ same-length c = c .before .loop .inv .2
 
 returns : tie.Need-returns Inv-loop μ-loop
 returns c =
-    let ns = now (c .before .before .before .before .args .ns) in
+    let ns = now (start-of (c .before) .args .ns) in
     let all : take (c .before .loop .i) ns ≡ ns = take-all (c .before .loop .i) ns (omega arith) in
     rw all at (c .before .loop .inv .1)
 

@@ -1,3 +1,4 @@
+-- `receiver::chunk::draw_number` meets its contract: the samples decide check 20, their points check 22.
 use borrow.Author.Needs.{needs}
 use Prim.Native.Nat.{_≤_}
 use native.Mathlib.Omega.{arith}
@@ -8,32 +9,36 @@ use Rattle.receiver.proofs.chunk.draw_number.Tie as tie
 use Rattle.receiver.proofs.chunk.draw_number.Reads as reads
 use Rattle.receiver.proofs.chunk.draw_number.Lts as lts
 
-points-requires : tie.Need-points-requires
-points-requires c κs = search needs
-
-whole-requires : tie.Need-whole-requires
-whole-requires c κs = search needs
-
 returns : tie.Need-returns
 unfolding drawNumber
-returns c = rw (← c .before .before .points .ensures, ← c .before .whole .ensures, c .if1 .taken)
+returns c = rw (← c .before .before .samples .ensures, ← c .before .whole .ensures, c .if1 .taken)
 
 mul-short : tie.Need-mul-short
 mul-short c =
-    let p = c .before .before in
-    let few : p .points .result ≤ p .before .args .octets = rw (p .points .ensures) (div-le-self _ _) in
-    omega arith
+    let n = c .before .before .before in
+    let few : n .samples .result ≤ n .before .args .octets = rw (n .samples .ensures) (div-le-self _ _) in
+    omega (arith, c .points .ensures)
 
 returns-2 : tie.Need-returns-2
 unfolding drawNumber
 returns-2 c =
-    rw (← c .before .before .before .points .ensures, ← c .before .before .whole .ensures, c .before .if1 .left, c .if2 .taken)
+    let w = c .before .before .before in
+    rw (← w .before .samples .ensures, ← w .whole .ensures, c .before .before .if1 .left, ← c .before .points .ensures, c .if2 .taken)
 
 returns-3 : tie.Need-returns-3
 unfolding drawNumber
 returns-3 c =
-    rw (← c .before .before .before .points .ensures, ← c .before .before .whole .ensures, c .before .if1 .left, c .if2 .left)
+    let w = c .before .before .before in
+    rw (← w .before .samples .ensures, ← w .whole .ensures, c .before .before .if1 .left, ← c .before .points .ensures, c .if2 .left)
 
 pub draw-number-spec : {M : Type 1} → statement M
 draw-number-spec =
-    tie.close (tie.spec points-requires whole-requires returns mul-short returns-2 returns-3)
+    tie.close
+    (tie.spec
+    (λ c κs. search needs)
+    (λ c κs. search needs)
+    returns
+    (λ c κs. search needs)
+    mul-short
+    returns-2
+    returns-3)

@@ -4,78 +4,142 @@ use mathlib.Core.Path.{_≡_, sym, ap, _∙_}
 use mathlib.Core.Bool.{cond}
 use Prim.Native.Nat.{ℕ, _≤_}
 use native.Mathlib.Omega.{arith}
+use lib.ListN.{length}
 use lib.Dec.{eqb}
-use Rattle.tags.specs.Rows.{pointsIn, roomFor}
+use Rattle.tags.specs.Rows.{pointsBy, litPointsBy, roomBy}
+use Rattle.tags.specs.Levels.{levelsCounted}
 use Rattle.tags.specs.Layout.{sampleOf, mappingOf}
-use Rattle.receiver.specs.Checks.{body}
-use Rattle.receiver.specs.ChunkLaws.{lit-duration, points-few, lit-few, levels-few, drawn-rows, drawn-levels, drawn-none}
+use Rattle.receiver.specs.Slices.{slices}
+use Rattle.receiver.specs.Chunk.{Chunk, chunk, body}
+use Rattle.receiver.specs.Steps.{mostOctets}
+use Rattle.receiver.proofs.ChunkLaws.{lit-duration, points-few, lit-few, levels-few, drawn-rows, drawn-levels, drawn-none}
 use Rattle.receiver.proofs.draw.draw.Statement.{statement}
 use Rattle.receiver.proofs.draw.draw.Tie as tie
 use Rattle.receiver.proofs.draw.draw.Reads as reads
 use Rattle.receiver.proofs.draw.draw.Lts as lts
 
-counted : (c : tie.After-points)
-    → c .points .result
-    ≡ pointsIn (sampleOf (c .before .before .before .before .before .before .before .args .k .layout) .roles)
-    (body (c .before .before .before .before .before .before .before .args .chunk .now))
-counted c = rw (← c .before .before .before .before .body-of .ensures) (c .points .ensures)
+-- ---- the steps, each from the one after it
 
-cast-t21 : tie.Need-cast-t21
-cast-t21 c =
-    let s = c .before .before .before .before .before .before .before .before .before .before .before .before in
-    let few : c .before .before .before .before .before .points .result ≤ 65280 =
-    rw (counted (c .before .before .before .before .before)) (points-few (sampleOf (s .args .k .layout) .roles) (s .args .chunk .now) (s .pre .0)) in
-    omega arith
+abbrev start-of : tie.After-body-of → tie.Start
+start-of c = c .before .before .before
+
+abbrev body-at : tie.After-is-drawing → tie.After-body-of
+body-at c = c .before
+
+abbrev drawing-at : tie.After-points → tie.After-is-drawing
+drawing-at c = c .before .before .before .before
+
+abbrev points-at : tie.After-draw → tie.After-points
+points-at c = c .before .before
+
+abbrev draw-at : tie.After-counted-time → tie.After-draw
+draw-at c = c .before .before .before
+
+-- ---- what the calls on the way gave
+
+abbrev this : tie.Start → Chunk
+this s = chunk (s .args .chunk-type) (s .args .octets .now)
+
+counted : (c : tie.After-points)
+    → let s = start-of (body-at (drawing-at c)) in
+    c .points .result ≡ pointsBy (sampleOf (s .args .k .layout)) (body (this s))
+counted c =
+    let b = body-at (drawing-at c) in
+    c .points .ensures ∙ rw (← b .body-of .ensures (start-of b .args .chunk-type)) (c .before .samples .ensures)
+
+-- the lit points that the drawing counted
+shown : (c : tie.After-draw)
+    → let s = start-of (body-at (drawing-at (points-at c))) in
+    let sample = sampleOf (s .args .k .layout) in
+    c .draw .result
+    ≡ cond (roomBy sample (body (this s)) (s .args .rows .now)) (litPointsBy sample (body (this s))) 0
+shown c =
+    let b = body-at (drawing-at (points-at c)) in
+    rw (← b .body-of .ensures (start-of b .args .chunk-type)) (c .draw .ensures .1)
 
 cast-t22 : tie.Need-cast-t22
 cast-t22 c =
-    let s = c .before .before .before .before .before .before .before .before .before .before .before .before in
-    let few : c .before .before .before .draw .result ≤ 65280 =
-    rw (c .before .before .before .draw .ensures .1, c .before .before .before .before .before .before .before .before .before .body-of .ensures)
-    (lit-few (sampleOf (s .args .k .layout) .roles) (s .args .chunk .now) (s .pre .0)
-    (roomFor (sampleOf (s .args .k .layout) .roles) (body (s .args .chunk .now)) (s .args .rows .now))) in
+    let p = points-at (draw-at c) in
+    let s = start-of (body-at (drawing-at p)) in
+    let few : p .points .result ≤ mostOctets = rw (counted p) (points-few (this s) (s .pre .0) (sampleOf (s .args .k .layout))) in
+    omega arith
+
+cast-t23 : tie.Need-cast-t23
+cast-t23 c =
+    let w = draw-at c in
+    let s = start-of (body-at (drawing-at (points-at w))) in
+    let few : w .draw .result ≤ mostOctets =
+    rw (shown w)
+    (lit-few (this s) (s .pre .0) (sampleOf (s .args .k .layout))
+    (roomBy (sampleOf (s .args .k .layout)) (body (this s)) (s .args .rows .now))) in
     omega arith
 
 returns : tie.Need-returns
 returns c =
-    let s = c .before .before .before .before .before .before .before .before .before .before .before .before in
-    let section = c .before .before .before .before .before .before .before .before .before .body-of .ensures in
-    drawn-rows (s .args .h .chunk) (s .args .chunk .now) (s .args .k) (s .args .rows .now) (s .args .levels .now)
-    (c .lit-time .result) (c .before .before .before .before .before .points .result) (c .before .before .before .draw .result) _
-    (sym (c .before .before .before .before .before .before .before .before .is-drawing .ensures) ∙ c .before .before .before .before .before .before .before .if1 .taken)
+    let w = draw-at c in
+    let p = points-at w in
+    let d = drawing-at p in
+    let s = start-of (body-at d) in
+    let section = body-at d .body-of .ensures (s .args .chunk-type) in
+    drawn-rows (s .args .chunk-type) (s .args .octets .now) (s .args .k) (slices (s .args .rows .now) (s .args .levels .now))
+    (c .counted-time .result) (p .points .result) (w .draw .result) _
+    (sym (d .is-drawing .ensures) ∙ p .before .before .before .if1 .taken)
     (s .pre .1)
-    (counted (c .before .before .before .before .before))
-    (rw section at (c .before .before .before .draw .ensures .1))
-    (c .lit-time .ensures ∙ lit-duration (eqb (c .before .before .before .draw .result) 0) (c .before .duration-of .result) ∙ ap (λ (t : ℕ). cond (eqb (c .before .before .before .draw .result) 0) 0 t) (c .before .duration-of .ensures .0))
-    (rw section at (c .before .before .before .draw .ensures .0))
+    (counted p)
+    (shown w)
+    (c .counted-time .ensures ∙ lit-duration (eqb (w .draw .result) 0) (c .before .duration-of .result) ∙ ap (λ (t : ℕ). cond (eqb (w .draw .result) 0) 0 t) (c .before .duration-of .ensures .0 (s .args .chunk-type)))
+    (rw (← section) (w .draw .ensures .0))
 
-cast-t26 : tie.Need-cast-t26
-cast-t26 c =
-    let s = c .before .before .before .before .before .before .before .before .before .before .before .before .before in
-    let few : c .before .before .write .result ≤ 65280 =
-    rw (c .before .before .write .ensures .1, c .before .before .before .before .before .before .before .before .before .before .body-of .ensures)
-    (levels-few (sampleOf (s .args .k .layout) .roles) (s .args .chunk .now) (s .pre .0) (mappingOf (s .args .k .dimmer))) in
+-- ---- dimmer levels
+
+abbrev dimming-at : tie.After-mode-in → tie.After-is-dimming
+dimming-at c = c .before .before .before
+
+abbrev mode-at : tie.After-write → tie.After-mode-in
+mode-at c = c .before .before
+
+abbrev undrawn-at : tie.After-is-dimming → tie.After-is-drawing
+undrawn-at c = c .before .before
+
+written : (c : tie.After-write)
+    → let s = start-of (body-at (undrawn-at (dimming-at (mode-at c)))) in
+    c .write .result ≡ levelsCounted (mappingOf (s .args .k .dimmer)) (length (body (this s)))
+written c =
+    let b = body-at (undrawn-at (dimming-at (mode-at c))) in
+    rw (← b .body-of .ensures (start-of b .args .chunk-type)) (c .write .ensures .1)
+
+cast-t27 : tie.Need-cast-t27
+cast-t27 c =
+    let w = c .before .before in
+    let s = start-of (body-at (undrawn-at (dimming-at (mode-at w)))) in
+    let few : w .write .result ≤ mostOctets =
+    rw (written w) (levels-few (this s) (s .pre .0) (mappingOf (s .args .k .dimmer))) in
     omega arith
 
 returns-2 : tie.Need-returns-2
 returns-2 c =
-    let s = c .before .before .before .before .before .before .before .before .before .before .before .before .before in
-    let section = c .before .before .before .before .before .before .before .before .before .before .body-of .ensures in
-    drawn-levels (s .args .h .chunk) (s .args .chunk .now) (s .args .k) (s .args .rows .now) (s .args .levels .now)
-    (c .before .before .before .before .mode-of .result) (c .before .before .write .result) _
-    (sym (c .before .before .before .before .before .before .before .is-dimming .ensures) ∙ c .before .before .before .before .before .before .if2 .taken)
+    let w = c .before .before in
+    let m = mode-at w in
+    let d = dimming-at m in
+    let b = body-at (undrawn-at d) in
+    let s = start-of b in
+    let section = b .body-of .ensures (s .args .chunk-type) in
+    drawn-levels (s .args .chunk-type) (s .args .octets .now) (s .args .k) (slices (s .args .rows .now) (s .args .levels .now))
+    (m .mode-in .result) (w .write .result) _
+    (sym (d .is-dimming .ensures) ∙ m .before .before .if2 .taken)
     (s .pre .1)
-    (c .before .before .before .before .mode-of .ensures)
-    (rw section at (c .before .before .write .ensures .1))
-    (rw section at (c .before .before .write .ensures .0))
+    (m .mode-in .ensures)
+    (written w)
+    (rw (← section) (w .write .ensures .0))
 
 returns-3 : tie.Need-returns-3
 returns-3 c =
-    let s = c .before .before .before .before .before .before .before .before in
-    rw (c .nothing-drawn .ensures)
-    (drawn-none (s .args .h .chunk) (s .args .chunk .now) (s .args .k) (s .args .rows .now) (s .args .levels .now)
-    (sym (c .before .before .before .before .is-drawing .ensures) ∙ c .before .before .before .if1 .left)
-    (sym (c .before .before .is-dimming .ensures) ∙ c .before .if2 .left))
+    let d = c .before .before in
+    let s = start-of (body-at (undrawn-at d)) in
+    rw (c .no-counts .ensures)
+    (drawn-none (s .args .chunk-type) (s .args .octets .now) (s .args .k) (slices (s .args .rows .now) (s .args .levels .now))
+    (sym (undrawn-at d .is-drawing .ensures) ∙ d .before .if1 .left)
+    (sym (d .is-dimming .ensures) ∙ c .before .if2 .left))
 
 pub draw-spec : {M : Type 1} → statement M
 draw-spec =
@@ -87,14 +151,15 @@ draw-spec =
     (λ c κs. search needs)
     (λ c κs. search needs)
     (λ c κs. search needs)
-    cast-t21
+    (λ c κs. search needs)
     cast-t22
+    cast-t23
     (λ c. search needs)
     returns
     (λ c κs. search needs)
     (λ c κs. search needs)
     (λ c κs. search needs)
-    cast-t26
+    cast-t27
     (λ c. search needs)
     returns-2
     (λ c κs. search needs)

@@ -3,103 +3,149 @@
 use borrow.Author.Needs.{needs}
 use borrow.Author.Tests.{not-true, not-false}
 use mathlib.Core.Path.{_≡_, sym, ap, _∙_}
-use mathlib.Core.Bool.{Bool, true, false, cond}
-use Prim.Native.Nat.{ℕ, _+_, _≤_}
+use mathlib.Core.Bool.{Bool, true, false, cond, not}
+use mathlib.Core.List.{List}
+use Prim.Native.Nat.{ℕ, _≤_}
 use native.Mathlib.Omega.{arith}
 use lib.Dec.{eqb}
-use Rattle.tags.specs.Rows.{pointsIn, litIn}
+use Rattle.tags.specs.RowsLaws.{litPoints-le-points}
+use Rattle.tags.specs.Rows.{pointsBy, litPointsBy}
 use Rattle.tags.specs.Choice.{refuse}
+use Rattle.tags.specs.Dictionary.{Sample}
 use Rattle.tags.specs.Layout.{sampleOf}
-use Rattle.receiver.specs.Record.{governingOf}
-use Rattle.receiver.specs.Checks.{sums, overLimit, isDrawing, body, meterNumber}
-use Rattle.receiver.specs.ChunkLaws.{lit-duration, litIn-le, points-few, within-limit, meter-idle, meter-drawing, meter-far}
+use Rattle.receiver.specs.Chunk.{Chunk, chunk, isDrawing, body}
+use Rattle.receiver.specs.Meters.{Sums, limit}
+use Rattle.receiver.specs.Checks.{meterNumber}
+use Rattle.receiver.specs.Record.{configurationOf}
+use Rattle.receiver.specs.Contract.{sumsIn}
+use Rattle.receiver.specs.Steps.{mostOctets}
+use Rattle.receiver.proofs.CheckLaws.{within-each}
+use Rattle.receiver.proofs.ChunkLaws.{lit-duration, points-few}
+use Rattle.receiver.proofs.MeterLaws.{meter-idle, meter-drawing, meter-far}
 use Rattle.receiver.proofs.draw.meter_number.Statement.{statement}
 use Rattle.receiver.proofs.draw.meter_number.Tie as tie
 use Rattle.receiver.proofs.draw.meter_number.Reads as reads
 use Rattle.receiver.proofs.draw.meter_number.Lts as lts
 
+-- ---- the chunk and the meters at the start
+
+abbrev this : tie.Start → Chunk
+this s = chunk (s .args .chunk-type) (s .args .octets .now)
+
+abbrev meters : tie.Start → Sums
+meters s = sumsIn (s .args .meters)
+
+within : (s : tie.Start) → (meters s .litTime ≤ limit) × (meters s .points ≤ limit) × (meters s .litPoints ≤ limit)
+within s = within-each (meters s) (s .pre .1)
+
+-- ---- the steps, each from the one after it
+
+abbrev drawing-at : tie.After-points → tie.After-is-drawing
+drawing-at c = c .before .before .before .before .before
+
+abbrev start-of : tie.After-points → tie.Start
+start-of c = drawing-at c .before .before
+
+abbrev points-at : tie.After-duration-of → tie.After-points
+points-at c = c .before
+
+abbrev time-at : tie.After-over-limit → tie.After-duration-of
+time-at c = c .before .before .before .before
+
+abbrev far-at : tie.After-counted-time → tie.After-over-limit
+far-at c = c .before .before .before
+
+abbrev near-at : tie.After-over-limit2 → tie.After-counted-time
+near-at c = c .before .before .before .before
+
 -- ---- what the calls on the way gave
 
-drawing : (c : tie.Else1) → isDrawing (c .before .before .before .args .kind) (governingOf (c .before .before .before .args .k)) ≡ true
-drawing c = sym (c .before .is-drawing .ensures) ∙ not-false _ (c .if1 .left)
+drawing : (c : tie.After-points) → isDrawing (start-of c .args .chunk-type) (configurationOf (start-of c .args .k)) ≡ true
+drawing c = sym (drawing-at c .is-drawing .ensures) ∙ not-false _ (c .before .before .before .before .if1 .left)
 
 counted : (c : tie.After-points)
-    → c .points .result
-    ≡ pointsIn (sampleOf (c .before .before .before .before .before .before .args .k .layout) .roles)
-    (body (c .before .before .before .before .before .before .args .chunk .now))
-counted c = rw (← c .before .before .body-of .ensures) (c .points .ensures)
+    → c .points .result ≡ pointsBy (sampleOf (start-of c .args .k .layout)) (body (this (start-of c)))
+counted c =
+    c .points .ensures ∙ rw (← c .before .before .before .body-of .ensures (start-of c .args .chunk-type)) (c .before .samples .ensures)
 
-few : (c : tie.After-points) → c .points .result ≤ 65280
-few c =
-    let a = c .before .before .before .before .before .before in
-    rw (counted c) (points-few (sampleOf (a .args .k .layout) .roles) (a .args .chunk .now) (a .pre .0))
+few : (c : tie.After-points) → c .points .result ≤ mostOctets
+few c = let s = start-of c in rw (counted c) (points-few (this s) (s .pre .0) (sampleOf (s .args .k .layout)))
 
 shown-are : (c : tie.After-lit)
-    → c .lit .result
-    ≡ litIn (sampleOf (c .before .before .before .before .before .before .before .before .before .args .k .layout) .roles)
-    (body (c .before .before .before .before .before .before .before .before .before .args .chunk .now))
-    (pointsIn (sampleOf (c .before .before .before .before .before .before .before .before .before .args .k .layout) .roles)
-    (body (c .before .before .before .before .before .before .before .before .before .args .chunk .now)))
-shown-are c = rw (← c .before .before .before .before .before .body-of .ensures) (c .lit .ensures)
-
-cond-le : (b : Bool) (t : ℕ) → cond b 0 t ≤ t
-cond-le true t = omega arith
-cond-le false t = omega arith
+    → let s = start-of (points-at (time-at (c .before .before))) in
+    c .lit .result
+    ≡ litPointsBy (sampleOf (s .args .k .layout)) (body (this s))
+shown-are c =
+    let p = points-at (time-at (c .before .before)) in
+    rw (← p .before .before .before .body-of .ensures (start-of p .args .chunk-type)) (c .lit .ensures)
 
 -- ---- the needs
 
 returns : tie.Need-returns
 returns c =
     let s = c .before .before .before in
-    sym
-    (meter-idle (s .args .kind) (s .args .chunk .now) (governingOf (s .args .k)) (sums (s .args .lit) (s .args .points) (s .args .lit-points))
-    (sym (c .before .is-drawing .ensures) ∙ not-true _ (c .if1 .taken))
-    (within-limit (s .args .lit) (s .args .points) (s .args .lit-points) (s .pre .1 .0) (s .pre .1 .1) (s .pre .1 .2)))
+    sym (meter-idle (this s) (configurationOf (s .args .k)) (meters s) (sym (c .before .is-drawing .ensures) ∙ not-true _ (c .if1 .taken)) (s .pre .1))
 
-add-near-2 : tie.Need-add-near-2
-add-near-2 c = omega (arith, few (c .before))
+add-time : tie.Need-add-over-limit
+add-time c =
+    let d = c .before in
+    omega (arith, within (start-of (points-at d)) .0, d .duration-of .ensures .1)
 
-add-near-3 : tie.Need-add-near-3
-add-near-3 c = omega (arith, few (c .before))
+add-points : tie.Need-add-over-limit-2
+add-points c = let p = points-at (c .before .before) in omega (arith, within (start-of p) .1, few p)
+
+add-lit : tie.Need-add-over-limit-3
+add-lit c = let p = points-at (c .before .before .before) in omega (arith, within (start-of p) .2, few p)
 
 returns-2 : tie.Need-returns-2
 returns-2 c =
-    let s = c .before .before .before .before .before .before .before .before in
+    let o = c .before in
+    let d = time-at o in
+    let p = points-at d in
+    let s = start-of p in
     sym
-    (meter-far (s .args .kind) (s .args .chunk .now) (s .args .k) (sums (s .args .lit) (s .args .points) (s .args .lit-points))
-    (c .before .before .points .result) (c .before .duration-of .result)
-    (drawing (c .before .before .before .before .before))
-    (counted (c .before .before))
-    (c .before .duration-of .ensures .0)
-    (not-true _ (c .if2 .taken)))
+    (meter-far (this s) (s .args .k) (meters s) (p .points .result) (d .duration-of .result) (drawing p) (counted p) (d .duration-of .ensures .0 (s .args .chunk-type))
+    (sym (o .over-limit .ensures) ∙ not-true _ (c .if2 .taken)))
 
-add-over : tie.Need-add-over
-add-over c =
-    let time = c .before .before .before .duration-of .result in
-    let less : c .lit-time .result ≤ time = rw (c .lit-time .ensures, lit-duration (eqb (c .before .lit .result) 0) time) (cond-le (eqb (c .before .lit .result) 0) time) in
-    omega (arith, c .before .before .before .duration-of .ensures .1)
+counted-le : (r shown time : ℕ) → r ≡ cond (not (eqb shown 0)) time 0 → r ≤ time
+counted-le r shown time e = rw e (go (eqb shown 0))
+  where
+    go : (b : Bool) → cond (not b) time 0 ≤ time
+    go true = omega arith
+    go false = omega arith
 
-add-over-2 : tie.Need-add-over-2
-add-over-2 c = omega (arith, few (c .before .before .before .before))
+add-counted : tie.Need-add-over-limit-4
+add-counted c =
+    let n = c .before in
+    let d = time-at (far-at n) in
+    omega (arith, within (start-of (points-at d)) .0, d .duration-of .ensures .1, counted-le (n .counted-time .result) (n .before .lit .result) (d .duration-of .result) (n .counted-time .ensures))
 
-add-over-3 : tie.Need-add-over-3
-add-over-3 c =
-    let less : c .before .lit .result ≤ c .before .before .before .before .points .result =
-    rw (shown-are (c .before), counted (c .before .before .before .before)) (litIn-le _ _ _) in
-    omega (arith, few (c .before .before .before .before))
+add-points-again : tie.Need-add-over-limit-5
+add-points-again c = let p = points-at (time-at (far-at (c .before .before))) in omega (arith, within (start-of p) .1, few p)
+
+shown-le : (sample : Sample) (octets : List ℕ) (l p : ℕ) → l ≡ litPointsBy sample octets → p ≡ pointsBy sample octets → l ≤ p
+shown-le sample octets l p e f = rw (e, f) (litPoints-le-points sample octets)
+
+add-shown : tie.Need-add-over-limit-6
+add-shown c =
+    let n = c .before .before .before in
+    let p = points-at (time-at (far-at n)) in
+    let less : n .before .lit .result ≤ p .points .result = shown-le (sampleOf (start-of p .args .k .layout)) (body (this (start-of p))) _ _ (shown-are (n .before)) (counted p) in
+    omega (arith, within (start-of p) .2, few p)
 
 -- near a limit the number goes by what the chunk really adds
-near-number : (c : tie.After-lit-time)
-    → meterNumber (c .before .before .before .before .before .before .before .before .before .before .args .kind) (c .before .before .before .before .before .before .before .before .before .before .args .chunk .now) (governingOf (c .before .before .before .before .before .before .before .before .before .before .args .k)) (sums (c .before .before .before .before .before .before .before .before .before .before .args .lit) (c .before .before .before .before .before .before .before .before .before .before .args .points) (c .before .before .before .before .before .before .before .before .before .before .args .lit-points))
-    ≡ refuse (overLimit (sums (c .before .before .before .before .before .before .before .before .before .before .args .lit + c .lit-time .result) (c .before .before .before .before .before .before .before .before .before .before .args .points + c .before .before .before .before .points .result) (c .before .before .before .before .before .before .before .before .before .before .args .lit-points + c .before .lit .result))) 23
+near-number : (c : tie.After-over-limit2)
+    → let s = start-of (points-at (time-at (far-at (near-at c)))) in
+    meterNumber (this s) (configurationOf (s .args .k)) (meters s) ≡ refuse (c .over-limit2 .result) 23
 near-number c =
-    let s = c .before .before .before .before .before .before .before .before .before .before in
-    meter-drawing (s .args .kind) (s .args .chunk .now) (s .args .k) (sums (s .args .lit) (s .args .points) (s .args .lit-points))
-    (c .before .before .before .before .points .result) (c .before .lit .result) (c .lit-time .result)
-    (drawing (c .before .before .before .before .before .before .before))
-    (counted (c .before .before .before .before))
-    (shown-are (c .before))
-    (c .lit-time .ensures ∙ lit-duration (eqb (c .before .lit .result) 0) (c .before .before .before .duration-of .result) ∙ ap (λ (t : ℕ). cond (eqb (c .before .lit .result) 0) 0 t) (c .before .before .before .duration-of .ensures .0))
+    let n = near-at c in
+    let d = time-at (far-at n) in
+    let p = points-at d in
+    let s = start-of p in
+    let shown = n .before .lit .result in
+    meter-drawing (this s) (s .args .k) (meters s) (p .points .result) shown (n .counted-time .result) (drawing p) (counted p) (shown-are (n .before))
+    (n .counted-time .ensures ∙ lit-duration (eqb shown 0) (d .duration-of .result) ∙ ap (λ (t : ℕ). cond (eqb shown 0) 0 t) (d .duration-of .ensures .0 (s .args .chunk-type)))
+    ∙ ap (λ (b : Bool). refuse b 23) (sym (c .over-limit2 .ensures))
 
 returns-3 : tie.Need-returns-3
 returns-3 c = sym (near-number (c .before) ∙ ap (λ (b : Bool). refuse b 23) (c .if3 .taken))
@@ -116,14 +162,17 @@ meter-number-spec =
     (λ c κs. search needs)
     (λ c κs. search needs)
     (λ c κs. search needs)
-    (λ c. search needs)
-    add-near-2
-    add-near-3
+    (λ c κs. search needs)
+    add-time
+    add-points
+    add-lit
+    (λ c κs. search needs)
     returns-2
     (λ c κs. search needs)
     (λ c κs. search needs)
-    add-over
-    add-over-2
-    add-over-3
+    add-counted
+    add-points-again
+    add-shown
+    (λ c κs. search needs)
     returns-3
     returns-4)

@@ -4,7 +4,7 @@ use Rattle.receiver.proofs.header.wrong_length.Statement.{statement}
 use Rattle.receiver.proofs.header.wrong_length.Tie as tie
 
 returns : tie.Need-returns
-returns c = rw (← c .before .before .octet .ensures, ← c .before .octet2 .ensures, ← c .be16 .ensures)
+returns c = rw (← c .total-size .ensures)
 
 pub wrong-length-spec : {M : Type 1} → statement M
-wrong-length-spec = tie.close (tie.spec (λ c κs. search needs) (λ c κs. search needs) (λ c κs. search needs) returns)
+wrong-length-spec = tie.close (tie.spec (λ c κs. search needs) returns)

@@ -1,18 +1,27 @@
 -- `receiver::message::space_of` meets its contract: the dictionary's word in modes 1 and 2, else 0.
 use borrow.Author.Needs.{needs}
-use mathlib.Core.Path.{sym, ap, _∙_}
+use mathlib.Core.Path.{_≡_, sym, ap, _∙_}
 use Rattle.tags.specs.Dictionary.{Sample}
-use Rattle.receiver.specs.RecordLaws.{graphic-sample, other-sample}
+use Rattle.receiver.specs.Modes.{graphicMode}
+use Rattle.receiver.specs.Record.{modeIn}
+use Rattle.receiver.proofs.RecordLaws.{graphic-sample, other-sample}
 use Rattle.receiver.proofs.message.space_of.Statement.{statement}
 use Rattle.receiver.proofs.message.space_of.Tie as tie
 
+tested : (c : tie.After-graphic-mode) → c .graphic-mode .result ≡ graphicMode (modeIn (c .before .before .args .k .state))
+tested c = rw (← c .before .mode-in .ensures) (c .graphic-mode .ensures)
+
 returns : tie.Need-returns
 returns c =
-    let s = c .before .before .before .before .before in
-    c .space .ensures ∙ ap (λ (a : Sample). a .space) (sym (graphic-sample (s .args .k) (c .before .before .if1 .taken)))
+    let g = c .before .before .before in
+    let k = g .before .before .args .k in
+    c .space .ensures ∙ ap (λ (a : Sample). a .space) (sym (graphic-sample k (sym (tested g) ∙ c .before .before .if1 .taken)))
 
 returns-2 : tie.Need-returns-2
-returns-2 c = ap (λ (a : Sample). a .space) (sym (other-sample (c .before .before .before .args .k) (c .if1 .left)))
+returns-2 c =
+    let g = c .before in
+    ap (λ (a : Sample). a .space) (sym (other-sample (g .before .before .args .k) (sym (tested g) ∙ c .if1 .left)))
 
 pub space-of-spec : {M : Type 1} → statement M
-space-of-spec = tie.close (tie.spec (λ c κs. search needs) returns returns-2)
+space-of-spec =
+    tie.close (tie.spec (λ c κs. search needs) (λ c κs. search needs) (λ c κs. search needs) returns returns-2)

@@ -6,7 +6,7 @@ use Prim.Native.Nat.{ℕ, _-_, _≤_}
 use native.Mathlib.Nat.{le-refl, add-comm}
 use lib.ListN.{length, drop, length-drop}
 use lib.Seq.{take-all}
-use lib.Dec.{eqb}
+use lib.Dec.{eqb, lit≤}
 use Rattle.tags.specs.Choice.{refuse}
 use Rattle.receiver.specs.Message.{topBit, dataStart, dataOf}
 use Rattle.receiver.specs.Header.{headerOf}
@@ -33,7 +33,7 @@ within c =
     let m = c .before .before .before .before .args .octets .now in
     rw (start-is c)
     (ltb-false (length m) (dataStart m)
-    (refuse-zero _ 4 (first-zero-right (refuse (eqb (topBit m) 0) 3) _ (first-zero-right (refuse (wrongLength m) 2) _ (accepted (c .before))))))
+    (refuse-zero _ 5 (lit≤ tt) (first-zero-right (refuse (eqb (topBit m) 0) 3) _ (first-zero-right (refuse (wrongLength m) 2) _ (accepted (c .before))))))
 
 returns : tie.Need-returns
 unfolding dataSection sectionStart

@@ -8,6 +8,7 @@ use lib.Seq.{length-take-le}
 use lib.IntN.{ℤ}
 use borrow.Author.Needs.{needs}
 use Rattle.samples.specs.declared.plan.Ends.{Ends}
+use Rattle.samples.specs.Limits.{colourLimit, rowSize}
 use Rattle.samples.specs.Codes.{Plan, planOf, codesIn, Slotted, Ordered}
 use Rattle.samples.proofs.PlanLaws.{Planned}
 use Rattle.samples.proofs.ChunkLaws.{slotted-append, slotted-codes, planned, planned-rows, planned-lit}
@@ -73,33 +74,33 @@ module _ (c : tie.After-draw-all-arg) where
   abbrev kind : ℕ → ℕ → List ℕ
   kind = codesIn (at-table .table .result) (at-start .args .width) waves
 
-  slotted : (start n : ℕ) → start + n ≤ 24 → Slotted (kind start n)
+  slotted : (start n : ℕ) → start + n ≤ rowSize → Slotted (kind start n)
   slotted = slotted-codes (at-table .table .result) (at-start .args .width) waves
 
   -- ---- the lists
 
-  listed : Kinds codes (kind 0 5) (kind 7 1) (kind 16 8) (kind 8 8) (kind 6 1) (ends .coordinates) (ends .plains) (ends .colours) (ends .intensity)
+  listed : Kinds codes (kind 0 5) (kind 7 1) (kind 16 colourLimit) (kind 8 colourLimit) (kind 6 1) (ends .coordinates) (ends .plains) (ends .colours) (ends .intensity)
   listed =
       let g₁ = at₁ .gather .ensures in
       let g₂ = at₂ .gather2 .ensures in
       let g₃ = at₃ .gather3 .ensures in
       let g₄ = at₄ .gather4 .ensures in
       let g₅ = at₅ .gather5 .ensures in
-      kinds _ _ _ _ codes (kind 0 5) (kind 7 1) (kind 16 8) (kind 8 8) (kind 6 1) (ends .coordinates) (at₂ .gather2 .result) (ends .plains)
+      kinds _ _ _ _ codes (kind 0 5) (kind 7 1) (kind 16 colourLimit) (kind 8 colourLimit) (kind 6 1) (ends .coordinates) (at₂ .gather2 .result) (ends .plains)
       (ends .colours) (ends .intensity) (g₁ .3) (g₂ .3) (g₃ .3) (g₄ .3) (g₅ .3) (omega (arith, g₁)) (omega (arith, g₁, g₂))
       (omega (arith, g₁, g₂, g₃)) (omega (arith, g₁, g₂, g₃, g₄)) (g₂ .0) (g₃ .0) (g₄ .0) (g₅ .0)
 
-  all-slotted : Slotted (kind 0 5 ++ kind 7 1 ++ kind 16 8 ++ kind 8 8 ++ kind 6 1)
+  all-slotted : Slotted (kind 0 5 ++ kind 7 1 ++ kind 16 colourLimit ++ kind 8 colourLimit ++ kind 6 1)
   all-slotted =
       let two = kind 0 5 ++ kind 7 1 in
-      let three = two ++ kind 16 8 in
-      let four = three ++ kind 8 8 in
+      let three = two ++ kind 16 colourLimit in
+      let four = three ++ kind 8 colourLimit in
       slotted-append four (kind 6 1)
-      (slotted-append three (kind 8 8)
-      (slotted-append two (kind 16 8)
+      (slotted-append three (kind 8 colourLimit)
+      (slotted-append two (kind 16 colourLimit)
       (slotted-append (kind 0 5) (kind 7 1) (slotted 0 5 (omega arith)) (slotted 7 1 (omega arith)))
-      (slotted 16 8 (omega arith)))
-      (slotted 8 8 (omega arith)))
+      (slotted 16 colourLimit (omega arith)))
+      (slotted 8 colourLimit (omega arith)))
       (slotted 6 1 (omega arith))
 
   ordered : Ordered codes ends
@@ -139,11 +140,11 @@ returns c =
     let a = at-start r .args in
     let t = at-table r .table in (
       c .before .draw-all .ensures .0
-          ∙ ap (λ (l : List ℤ). l ++ drop (a .count * 24) (a .rows .now))
-          (planned-rows (plan r) (roles r) (t .result) (waves r) (a .octets .now) (a .width) (roles-length r) (ready r) (a .count)),
+          ∙ ap (λ (l : List ℤ). l ++ drop (a .samples * rowSize) (a .rows .now))
+          (planned-rows (plan r) (roles r) (t .result) (waves r) (a .octets .now) (a .width) (roles-length r) (ready r) (a .samples)),
       c .before .draw-all .ensures .1
           ∙ planned-lit (roles r) (t .result) (waves r) (a .octets .now) (plan r .colours) (plan r .hint) (a .width) (roles-length r)
-          (ready r .short) (t .ensures) (ready r .colours) (ready r .hint) (a .count),
+          (ready r .short) (t .ensures) (ready r .colours) (ready r .hint) (a .samples),
     )
 
 pub draw-spec : {M : Type 1} → statement M

@@ -1,4 +1,4 @@
--- `table`: the loop goes from the last octet to the first; what lies behind is in the table.
+-- `table`: the loop goes from the last octet to the first; what it has passed is in the table.
 use Prim.Native.Nat.{ℕ, suc, _+_, _-_, _<_, _≤_}
 use native.Mathlib.Omega.{arith}
 use mathlib.Core.Path.{_≡_, sym, _∙_}
@@ -7,6 +7,7 @@ use lib.ListN.{length, getD, take, set, replicate, length-replicate, getD-replic
 use lib.Seq.{getD-take, length-take-le}
 use borrow.Author.Needs.{needs}
 use Rattle.samples.specs.Roles.{placeOf}
+use Rattle.samples.specs.Codes.{tableSize, Tabled}
 use Rattle.samples.proofs.RoleLaws.{Filled, filled-none, filled-set, filled-skip}
 use Rattle.samples.proofs.places.table.Statement.{statement}
 use Rattle.samples.proofs.places.table.Tie as tie
@@ -22,7 +23,7 @@ loop-holds c =
     let l : length (take (c .args .width) (c .args .roles .now)) ≡ c .args .width = length-take-le _ _ (omega arith) in (
       omega arith,
       l,
-      filled-none (replicate 128 (c .args .width)) (take (c .args .width) (c .args .roles .now)) (c .args .width) (length-replicate 128 (c .args .width)) (λ k b. getD-replicate 128 k (c .args .width) 0 b) (omega arith),
+      filled-none (replicate tableSize (c .args .width)) (take (c .args .width) (c .args .roles .now)) (c .args .width) (length-replicate tableSize (c .args .width)) (λ k b. getD-replicate tableSize k (c .args .width) 0 b) (omega arith),
     )
 
 -- the loop counts down
@@ -33,10 +34,10 @@ module _ (places roles : List ℕ) (width i v : ℕ) (h : 0 < i) (hw : i ≤ wid
   octet : v ≡ getD (take width roles) (i - 1) 0
   octet = e ∙ sym (getD-take width roles (i - 1) 0 (omega arith))
 
-  turn-set : v < 128 → Filled (set places v (i - 1)) (take width roles) (i - 1)
+  turn-set : v < tableSize → Filled (set places v (i - 1)) (take width roles) (i - 1)
   turn-set b = filled-set places (take width roles) (i - 1) v before (omega arith) octet b
 
-  turn-skip : 128 ≤ v → Filled places (take width roles) (i - 1)
+  turn-skip : tableSize ≤ v → Filled places (take width roles) (i - 1)
   turn-skip b = filled-skip places (take width roles) (i - 1) v before (omega arith) octet b
 
 loop-again : tie.Need-loop-again Inv-loop μ-loop
@@ -59,7 +60,7 @@ loop-again-2 c =
           (c .before .before .before .loop-test .taken) (h .inv .0) (h .inv .1) (h .inv .2) (c .before .index .ensures .0) (c .if1 .left),
     )
 
-none-left : (places roles : List ℕ) (i : ℕ) → i ≤ 0 → Filled places roles i → (k : ℕ) → k < 128 → getD places k 0 ≡ placeOf k roles
+none-left : (places roles : List ℕ) (i : ℕ) → i ≤ 0 → Filled places roles i → Tabled places roles
 none-left places roles i h f k b =
     let z : i ≡ 0 = omega arith in
     let q : getD places k 0 ≡ 0 + placeOf k roles = (rw z at f) .1 k b in

@@ -7,6 +7,7 @@ use mathlib.Core.List.{List, _++_, append-nil}
 use mathlib.Core.Logic.{⊎-elim}
 use lib.ListN.{length, take, set, length-set}
 use borrow.Author.Needs.{needs}
+use Rattle.samples.specs.Limits.{rowSize}
 use Rattle.samples.specs.Codes.{varies, codesIn, codeOf}
 use Rattle.samples.proofs.CodeLaws.{codes-more, codes-same, take-more}
 use Rattle.samples.proofs.plan.gather.Statement.{statement}
@@ -14,7 +15,7 @@ use Rattle.samples.proofs.plan.gather.Tie as tie
 
 abbrev Inv-loop : tie.InvT-loop
 Inv-loop places width waves colours start count codes₀ n filled₀ i₀ codes filled i =
-    (i ≤ count) × (n ≤ filled) × (filled ≤ n + i) × (length codes ≡ 24)
+    (i ≤ count) × (n ≤ filled) × (filled ≤ n + i) × (length codes ≡ rowSize)
     × (take filled codes ≡ take n codes₀ ++ codesIn places width (take colours waves) start i)
 
 abbrev μ-loop : tie.MeasureT-loop

@@ -9,13 +9,14 @@ use mir.Syntax.{w32}
 use mir.ValLaws.{toZ-pos}
 use borrow.Author.Needs.{needs}
 use borrow.Author.Tests.{not-true, not-false}
+use Rattle.samples.specs.Limits.{colourLimit}
 use Rattle.samples.proofs.TemplateLaws.{Waved, waved-zeros, waved-shutter, waved-more, waved-all, getD-take-past}
 use Rattle.samples.proofs.plan.template.Statement.{statement}
 use Rattle.samples.proofs.plan.template.Tie as tie
 
 abbrev Inv-loop : tie.InvT-loop
 Inv-loop waves colours shutter row₀ fixed k₀ row k =
-    (fixed ≡ min colours 8) × (k ≤ fixed) × Waved shutter (take colours waves) row k
+    (fixed ≡ min colours colourLimit) × (k ≤ fixed) × Waved shutter (take colours waves) row k
 
 abbrev μ-loop : tie.MeasureT-loop
 μ-loop waves colours shutter row₀ fixed k₀ row k = fixed - k

@@ -1,4 +1,4 @@
--- `wave`: the first so many of an array of eight, read past them as 0.
+-- `wave`: the first so many of an array, read past them as 0.
 use mathlib.Core.Path.{sym, _∙_}
 use lib.Dec.{lit<}
 use lib.Seq.{getD-take}

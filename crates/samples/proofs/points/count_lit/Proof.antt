@@ -11,11 +11,21 @@ use Rattle.samples.proofs.points.count_lit.Statement.{statement}
 use Rattle.samples.proofs.points.count_lit.Tie as tie
 
 abbrev Inv-loop : tie.InvT-loop
-Inv-loop codes n place width count octets lit₀ i₀ at₀ lit i at =
-    (i ≤ count) × (at ≡ i * width) × (lit ≤ i) × (lit ≡ countBy (take n codes) place width octets i)
+Inv-loop codes n place width samples octets lit₀ i₀ at₀ lit i at =
+    (i ≤ samples) × (at ≡ i * width) × (lit ≤ i) × (lit ≡ countBy (take n codes) place width octets i)
 
 abbrev μ-loop : tie.MeasureT-loop
-μ-loop codes n place width count octets lit₀ i₀ at₀ lit i at = count - i
+μ-loop codes n place width samples octets lit₀ i₀ at₀ lit i at = samples - i
+
+-- ---- the steps, each from the one after it
+
+abbrev start-of : tie.At-loop Inv-loop μ-loop → tie.Start Inv-loop μ-loop
+start-of c = c .before .before
+
+abbrev turn-at : tie.After-bit Inv-loop μ-loop → tie.In-loop Inv-loop μ-loop
+turn-at c = c .before .before .before
+
+-- ---- the needs
 
 loop-holds : tie.Need-loop-holds Inv-loop μ-loop
 unfolding countBy
@@ -23,14 +33,14 @@ loop-holds c = (omega arith, sym (zero-mul _), omega arith, refl)
 
 -- the sample lies within the octets
 within : (c : tie.In-loop Inv-loop μ-loop) →
-    c .before .loop .i * c .before .before .before .args .width + c .before .before .before .args .width
-    ≤ length (c .before .before .before .args .octets .now)
-within c = times-within _ _ _ _ (c .loop-test .taken) (c .before .before .before .pre .0)
+    c .before .loop .i * start-of (c .before) .args .width + start-of (c .before) .args .width
+    ≤ length (start-of (c .before) .args .octets .now)
+within c = times-within _ _ _ _ (c .loop-test .taken) (start-of (c .before) .pre .0)
 
 loop-again : tie.Need-loop-again Inv-loop μ-loop
 loop-again c =
-    let a = c .before .before .before .before .before .before .args in
-    let h = c .before .before .before .before .loop in (
+    let a = start-of (turn-at c .before) .args in
+    let h = turn-at c .before .loop in (
       omega arith,
       (rw (times-more (h .i) (a .width)) (omega arith)),
       omega (arith, bit-le (c .before .lit .result) (c .bit .result) (c .bit .ensures)),
@@ -45,7 +55,7 @@ add-lit c = omega (arith, bit-le (c .before .lit .result) (c .bit .result) (c .b
 returns : tie.Need-returns Inv-loop μ-loop
 returns c =
     let h = c .before .loop in
-    let e : h .i ≡ c .before .before .before .args .count = omega arith in
+    let e : h .i ≡ start-of (c .before) .args .samples = omega arith in
     rw e at (h .inv .3)
 
 pub count-lit-spec : {M : Type 1} → statement M

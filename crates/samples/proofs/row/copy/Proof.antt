@@ -10,14 +10,15 @@ use lib.Seq.{take-suc, take-suc-set, take-all}
 use mir.Syntax.{w32}
 use mir.ValLaws.{toZ-ofZ}
 use borrow.Author.Needs.{needs}
+use Rattle.samples.specs.Limits.{rowSize}
 use Rattle.samples.proofs.row.copy.Statement.{statement}
 use Rattle.samples.proofs.row.copy.Tie as tie
 
 abbrev Inv-loop : tie.InvT-loop
-Inv-loop template row₀ k₀ row k = (k ≤ 24) × (length row ≡ 24) × (take k row ≡ take k template)
+Inv-loop template row₀ k₀ row k = (k ≤ rowSize) × (length row ≡ rowSize) × (take k row ≡ take k template)
 
 abbrev μ-loop : tie.MeasureT-loop
-μ-loop template row₀ k₀ row k = 24 - k
+μ-loop template row₀ k₀ row k = rowSize - k
 
 loop-holds : tie.Need-loop-holds Inv-loop μ-loop
 loop-holds c = (omega arith, c .pre .0, refl)

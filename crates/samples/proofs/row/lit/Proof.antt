@@ -18,23 +18,34 @@ Inv-loop codes n hint sample shift lit₀ j₀ lit j =
 abbrev μ-loop : tie.MeasureT-loop
 μ-loop codes n hint sample shift lit₀ j₀ lit j = n - j
 
+-- ---- the steps, each from the one after it
+
+abbrev start-of : tie.At-loop Inv-loop μ-loop → tie.Start Inv-loop μ-loop
+start-of c = c .before .before .before
+
+abbrev turn-at : tie.After-scaled Inv-loop μ-loop → tie.In-loop Inv-loop μ-loop
+turn-at c = c .before .before
+
+-- ---- the needs
+
 loop-holds : tie.Need-loop-holds Inv-loop μ-loop
 loop-holds c = (omega arith, rw (c .octet .ensures .0) refl, refl)
 
 loop-again : tie.Need-loop-again Inv-loop μ-loop
 loop-again c =
-    let a = c .before .before .before .before .before .before .args in
-    let h = c .before .before .before .loop in (
+    let t = turn-at c in
+    let a = start-of (t .before) .args in
+    let h = t .before .loop in (
       omega arith,
       h .inv .1,
-      someLit-turn (a .codes .now) (a .n) (h .j) (c .before .before .loop-test .taken) (omega arith) (scaledIn _ (a .sample .now)) (h .lit) _ _
+      someLit-turn (a .codes .now) (a .n) (h .j) (t .loop-test .taken) (omega arith) (scaledIn _ (a .sample .now)) (h .lit) _ _
           (c .scaled .ensures .0) (h .inv .2),
     )
 
 returns : tie.Need-returns Inv-loop μ-loop
 unfolding litBy
 returns c =
-    let a = c .before .before .before .before .args in
+    let a = start-of (c .before) .args in
     let h = c .before .loop in
     rw (← h .inv .1)
     (someLit-ended (a .codes .now) (a .n) (h .j) (c .loop-test .left) (omega arith) (scaledIn _ (a .sample .now)) (h .lit) _ (h .inv .2))

@@ -8,6 +8,7 @@ use lib.IntN.{pos}
 use mir.Syntax.{w32}
 use mir.ValLaws.{toZ-pos}
 use borrow.Author.Needs.{needs}
+use Rattle.samples.specs.Limits.{rowSize}
 use Rattle.samples.specs.Codes.{slice, putAll, someLit, scaledIn, numberIn}
 use Rattle.samples.proofs.CodeLaws.{putAll-turn, someLit-turn, putAll-ended, someLit-ended, slotted-at}
 use Rattle.samples.proofs.row.put_scaled.Statement.{statement}
@@ -15,7 +16,7 @@ use Rattle.samples.proofs.row.put_scaled.Tie as tie
 
 abbrev Inv-loop : tie.InvT-loop
 Inv-loop codes from to shift sample row₀ lit₀ j₀ row lit j =
-    (length row ≡ 24)
+    (length row ≡ rowSize)
     × (putAll (numberIn shift sample) (slice j to codes) row ≡ putAll (numberIn shift sample) (slice from to codes) row₀)
     × ((lit || someLit (scaledIn shift sample) (slice j to codes)) ≡ someLit (scaledIn shift sample) (slice from to codes))
 

@@ -6,6 +6,7 @@ use lib.ListN.{length, length-set}
 use mir.Syntax.{w32}
 use mir.ValLaws.{toZ-ofZ}
 use borrow.Author.Needs.{needs}
+use Rattle.samples.specs.Limits.{rowSize}
 use Rattle.samples.specs.Row.{signed}
 use Rattle.samples.specs.Codes.{slice, putAll, signedIn}
 use Rattle.samples.proofs.CodeLaws.{putAll-turn, putAll-ended, slotted-at}
@@ -14,39 +15,50 @@ use Rattle.samples.proofs.row.put_signed.Tie as tie
 
 abbrev Inv-loop : tie.InvT-loop
 Inv-loop codes from to sample row₀ j₀ row j =
-    (length row ≡ 24) × (putAll (signedIn sample) (slice j to codes) row ≡ putAll (signedIn sample) (slice from to codes) row₀)
+    (length row ≡ rowSize) × (putAll (signedIn sample) (slice j to codes) row ≡ putAll (signedIn sample) (slice from to codes) row₀)
 
 abbrev μ-loop : tie.MeasureT-loop
 μ-loop codes from to sample row₀ j₀ row j = to - j
+
+-- ---- the steps, each from the one after it
+
+abbrev start-of : tie.At-loop Inv-loop μ-loop → tie.Start Inv-loop μ-loop
+start-of c = c .before .before
+
+abbrev turn-at : tie.After-coordinate Inv-loop μ-loop → tie.In-loop Inv-loop μ-loop
+turn-at c = c .before .before .before
+
+-- ---- the needs
 
 loop-holds : tie.Need-loop-holds Inv-loop μ-loop
 loop-holds c = (c .before .pre .0, refl)
 
 slice-set-from-row : tie.Need-slice-set-from-row Inv-loop μ-loop
 slice-set-from-row c =
-    let b = slotted-at _ _ _ (c .before .before .before .before .before .before .pre .1) (c .before .before .before .loop-test .taken) in
+    let b = slotted-at _ _ _ (start-of (turn-at c .before) .pre .1) (turn-at c .loop-test .taken) in
     omega arith
 
 loop-again : tie.Need-loop-again Inv-loop μ-loop
 unfolding signedIn
 loop-again c =
-    let a = c .before .before .before .before .before .before .args in
-    let h = c .before .before .before .before .loop in
-    let p = c .before .before .before .before .before .before .pre .1 in
+    let t = turn-at c in
+    let a = start-of (t .before) .args in
+    let h = t .before .loop in
+    let p = start-of (t .before) .pre .1 in
     let b : a .to ≤ length (a .codes .now) = omega (arith, p .sized, p .within) in (
       simp length-set (h .inv .0),
-      putAll-turn (a .codes .now) (a .to) (h .j) (c .before .before .before .loop-test .taken) b (signedIn (a .sample .now)) (h .row) _ _
+      putAll-turn (a .codes .now) (a .to) (h .j) (t .loop-test .taken) b (signedIn (a .sample .now)) (h .row) _ _
           (toZ-ofZ w32 (c .coordinate .result) (search needs) ∙ c .coordinate .ensures ∙ ap signed (c .before .value .ensures .0)) (h .inv .1),
     )
 
 same-length : tie.Need-same-length Inv-loop μ-loop
-same-length c = c .before .loop .inv .0 ∙ sym (c .before .before .before .pre .0)
+same-length c = c .before .loop .inv .0 ∙ sym (start-of (c .before) .pre .0)
 
 returns : tie.Need-returns Inv-loop μ-loop
 returns c =
-    let a = c .before .before .before .args in
+    let a = start-of (c .before) .args in
     let h = c .before .loop in
-    let p = c .before .before .before .pre .1 in
+    let p = start-of (c .before) .pre .1 in
     let b : a .to ≤ length (a .codes .now) = omega (arith, p .sized, p .within) in
     putAll-ended (a .codes .now) (a .to) (h .j) (c .loop-test .left) b (signedIn (a .sample .now)) (h .row) _ (h .inv .1)
 

@@ -1,5 +1,4 @@
 -- `dictionary::end_number`: each return gives the number of the first check that refuses, by the tests on the way there.
--- Assumes nothing.
 use borrow.Author.Needs.{needs}
 use borrow.Author.Tests.{eq-eqb, ne-eqb}
 use Rattle.tags.specs.Dictionary.{endNumber}
@@ -14,13 +13,13 @@ returns-2 : tie.Need-returns-2
 unfolding endNumber
 returns-2 c =
     let d = c .before .before in
-    rw (eq-eqb _ _ (d .if1 .taken), c .before .if2 .left, ← (d .before .before .before .incomplete .ensures), c .if3 .taken)
+    rw (eq-eqb _ _ (d .if1 .taken), c .before .if2 .left, ← (d .before .before .incomplete .ensures), c .if3 .taken)
 
 returns-3 : tie.Need-returns-3
 unfolding endNumber
 returns-3 c =
     let d = c .before .before in
-    rw (eq-eqb _ _ (d .if1 .taken), c .before .if2 .left, ← (d .before .before .before .incomplete .ensures), c .if3 .left)
+    rw (eq-eqb _ _ (d .if1 .taken), c .before .if2 .left, ← (d .before .before .incomplete .ensures), c .if3 .left)
 
 returns-4 : tie.Need-returns-4
 unfolding endNumber

@@ -1,8 +1,8 @@
 -- `dictionary::incomplete`: from what its calls ensure, and that a layout has as many wavelengths as it counts.
--- Assumes nothing.
 use borrow.Author.Needs.{needs}
+use Rattle.tags.specs.Limits.{colourLimit}
 use Rattle.tags.specs.Dictionary.{incomplete}
-use Rattle.tags.specs.DictionaryLaws.{length-used}
+use Rattle.tags.proofs.ArrayLaws.{length-used}
 use Rattle.tags.proofs.dictionary.incomplete.Statement.{statement}
 use Rattle.tags.proofs.dictionary.incomplete.Tie as tie
 
@@ -13,7 +13,7 @@ returns c =
     rw (
       c .before .has-role2 .ensures,
       c .before .before .has-role .ensures,
-      length-used (l .waves) 8 (l .colours) (search needs) (search needs),
+      length-used (l .waves) colourLimit (l .colours) (search needs) (search needs),
     )
 
 pub incomplete-spec : {M : Type 1} → statement M

@@ -1,5 +1,5 @@
--- `dictionary::misplaced`: at a precision and at 5000 `misplaced` computes; behind the two tests it is neither.
--- Assumes nothing.
+-- `dictionary::misplaced`: at a precision and at 5000 `misplaced` computes; after the two tests it is neither.
+use borrow.Author.Needs.{needs}
 use borrow.Author.Tests.{ne-eqb}
 use Rattle.tags.specs.Dictionary.{misplaced}
 use Rattle.tags.proofs.dictionary.misplaced.Statement.{statement}
@@ -15,7 +15,9 @@ returns-2 c = rw (c .before .if2 .taken)
 
 returns-3 : tie.Need-returns-3
 unfolding misplaced
-returns-3 c = simp (ne-eqb _ _ (c .before .before .if1 .left), ne-eqb _ _ (c .before .if2 .left))
+returns-3 c =
+    let e = c .before .before in
+    simp (c .before .skipped-by .ensures, ne-eqb _ _ (e .before .if1 .left), ne-eqb _ _ (e .if2 .left))
 
 pub misplaced-spec : {M : Type 1} → statement M
-misplaced-spec = tie.close (tie.spec returns returns-2 returns-3)
+misplaced-spec = tie.close (tie.spec returns returns-2 (λ c κs. search needs) (λ c. search needs) returns-3)

@@ -1,18 +1,18 @@
 -- `dictionary::repeated`: from what its calls ensure, and that a layout has as many roles and wavelengths as it counts.
--- Assumes nothing.
 use mathlib.Core.Path.{_≡_}
 use borrow.Author.Needs.{needs}
 use lib.ListN.{length, take}
+use Rattle.tags.specs.Limits.{octetLimit, colourLimit}
 use Rattle.tags.specs.Dictionary.{repeated}
-use Rattle.tags.specs.DictionaryLaws.{length-used}
+use Rattle.tags.proofs.ArrayLaws.{length-used}
 use Rattle.tags.proofs.dictionary.repeated.Statement.{statement}
 use Rattle.tags.proofs.dictionary.repeated.Tie as tie
 
 roles-used : (s : tie.Start) → length (take (s .args .l .width) (s .args .l .roles)) ≡ s .args .l .width
-roles-used s = length-used (s .args .l .roles) 32 (s .args .l .width) (search needs) (search needs)
+roles-used s = length-used (s .args .l .roles) octetLimit (s .args .l .width) (search needs) (search needs)
 
 waves-used : (s : tie.Start) → length (take (s .args .l .colours) (s .args .l .waves)) ≡ s .args .l .colours
-waves-used s = length-used (s .args .l .waves) 8 (s .args .l .colours) (search needs) (search needs)
+waves-used s = length-used (s .args .l .waves) colourLimit (s .args .l .colours) (search needs) (search needs)
 
 returns : tie.Need-returns
 unfolding repeated
@@ -41,7 +41,9 @@ repeated-spec =
     (λ c κs. search needs)
     (λ c κs. search needs)
     (λ c κs. search needs)
+    (λ c. search needs)
     (λ c κs. search needs)
+    (λ c. search needs)
     (λ c κs. search needs)
     (λ c. search needs)
     (λ c κs. search needs)

@@ -1,5 +1,4 @@
 -- `dictionary::step`: the tests are those by which `step` chooses.
--- Assumes nothing.
 use borrow.Author.Needs.{needs}
 use borrow.Author.Tests.{eq-eqb, ne-eqb}
 use Rattle.tags.specs.Dictionary.{step}

@@ -1,13 +1,29 @@
 -- `dictionary::tag_number`: each return gives the number of the first check that refuses, by the tests on the way there.
--- Assumes nothing.
 use borrow.Author.Needs.{needs}
-use mathlib.Core.Path.{_≡_, _∙_}
+use mathlib.Core.Path.{_≡_, sym, ap, _∙_}
+use mathlib.Core.Bool.{Bool, true, false}
 use Prim.Native.Nat.{ℕ}
 use Rattle.tags.specs.Choice.{refuse, first}
 use Rattle.tags.specs.Dictionary.{repeated, tagNumber}
-use Rattle.tags.specs.DictionaryView.{walkOf}
+use Rattle.tags.specs.DictionaryView.{dictionaryWalkOf}
 use Rattle.tags.proofs.dictionary.tag_number.Statement.{statement}
 use Rattle.tags.proofs.dictionary.tag_number.Tie as tie
+
+-- ---- the steps, each from the one after it
+
+abbrev known-at : tie.After-misplaced → tie.Else2
+known-at c = c .before .before
+
+abbrev defined-at : tie.After-misplaced → tie.Else1
+defined-at c = known-at c .before .before
+
+abbrev start-of : tie.After-misplaced → tie.Start
+start-of c = defined-at c .before .before
+
+abbrev misplaced-at : tie.After-repeated → tie.After-misplaced
+misplaced-at c = c .before .before .before
+
+-- ---- the needs
 
 returns : tie.Need-returns
 unfolding tagNumber
@@ -20,17 +36,17 @@ returns-2 c =
     rw (← (d .before .defined-group .ensures), d .if1 .left, ← (c .before .known-tag .ensures), c .if2 .taken)
 
 abbrev number : tie.Start → ℕ
-number s = tagNumber (s .args .mode) (s .args .left) (s .args .w) (walkOf (s .args .p))
+number s = tagNumber (s .args .mode) (s .args .left) (s .args .w) (dictionaryWalkOf (s .args .p))
 
--- behind checks 8 and 9 the number is check 10's, then check 11's
-behind : (c : tie.After-misplaced)
-    → number (c .before .before .before .before .before .before)
-    ≡ first (refuse (c .misplaced .result) 10)
-    (refuse (repeated (c .before .before .before .before .before .before .args .w) (walkOf (c .before .before .before .before .before .before .args .p) .sample)) 11)
+-- after checks 8 and 9 the number is check 10's, then check 11's
+abbrev next : tie.Start → Bool → ℕ
+next s wrong = first (refuse wrong 10) (refuse (repeated (s .args .w) (dictionaryWalkOf (s .args .p) .sample)) 11)
+
+after-known : (c : tie.After-misplaced) → number (start-of c) ≡ next (start-of c) (c .misplaced .result)
 unfolding tagNumber
-behind c =
-    let k = c .before .before in
-    let d = k .before .before in
+after-known c =
+    let k = known-at c in
+    let d = defined-at c in
     rw (
       ← (d .before .defined-group .ensures),
       d .if1 .left,
@@ -40,16 +56,18 @@ behind c =
     )
 
 returns-3 : tie.Need-returns-3
-returns-3 c = rw (behind (c .before), c .if3 .taken)
+returns-3 c = sym (after-known (c .before) ∙ ap (next (start-of (c .before))) (c .if3 .taken))
 
-last : (c : tie.After-repeated) → number (c .before .before .before .before .before .before .before .before .before) ≡ refuse (c .repeated .result) 11
-last c = behind (c .before .before .before) ∙ rw (c .before .before .if3 .left, ← (c .repeated .ensures))
+last : (c : tie.After-repeated) (again : Bool) → c .repeated .result ≡ again → number (start-of (misplaced-at c)) ≡ refuse again 11
+last c again e =
+    after-known (misplaced-at c) ∙ ap (next (start-of (misplaced-at c))) (c .before .before .if3 .left)
+    ∙ ap (λ b. refuse b 11) (sym (c .repeated .ensures) ∙ e)
 
 returns-4 : tie.Need-returns-4
-returns-4 c = rw (last (c .before), c .if4 .taken)
+returns-4 c = sym (last (c .before) true (c .if4 .taken))
 
 returns-5 : tie.Need-returns-5
-returns-5 c = rw (last (c .before), c .if4 .left)
+returns-5 c = sym (last (c .before) false (c .if4 .left))
 
 pub tag-number-spec : {M : Type 1} → statement M
 tag-number-spec =

@@ -1,17 +1,13 @@
 -- `tags::dimming::bad` meets its contract: the tests are the definition's own, at what the callees give.
-use lib.ListN.{getD}
 use borrow.Author.Needs.{needs}
 use Rattle.tags.specs.Dimmer.{badDimmerTag}
-use Rattle.tags.specs.DimmerLaws.{operands-low}
 use Rattle.tags.proofs.dimming.bad.Statement.{statement}
 use Rattle.tags.proofs.dimming.bad.Tie as tie
 
 returns : tie.Need-returns
 unfolding badDimmerTag
 returns c =
-    let a = c .before .before .before .before .before .before .args in
     rw (
-      operands-low (getD (a .tags .now) (a .i) 0),
       c .count-in-range .ensures,
       c .before .at .ensures,
       c .before .before .base-in-range .ensures,

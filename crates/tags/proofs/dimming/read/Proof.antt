@@ -2,7 +2,7 @@
 use mathlib.Core.Path.{sym, _∙_}
 use borrow.Author.Needs.{needs}
 use Rattle.tags.specs.Layout.{mappingOf}
-use Rattle.tags.specs.DimmerLaws.{read-bad, read-clash, read-passes}
+use Rattle.tags.proofs.DimmerWalkLaws.{read-bad, read-clash, read-passes}
 use Rattle.tags.proofs.dimming.read.Statement.{statement}
 use Rattle.tags.proofs.dimming.read.Tie as tie
 
@@ -10,9 +10,9 @@ returns : tie.Need-returns
 returns c =
     let at-bad = c .before .before in
     let a = at-bad .before .before .args in (
-      c .stopped .ensures .0
+      c .nothing-mapped .ensures .0
           ∙ read-bad (a .tags .now) (a .i) (mappingOf (a .dimmer)) (sym (at-bad .bad .ensures) ∙ c .before .if1 .taken),
-      c .stopped .ensures .1,
+      c .nothing-mapped .ensures .1,
     )
 
 returns-2 : tie.Need-returns-2
@@ -20,10 +20,10 @@ returns-2 c =
     let at-clashes = c .before .before in
     let at-bad = at-clashes .before .before in
     let a = at-bad .before .before .args in (
-      c .stopped2 .ensures .0
+      c .nothing-mapped2 .ensures .0
           ∙ read-clash (a .tags .now) (a .i) (mappingOf (a .dimmer)) (sym (at-bad .bad .ensures) ∙ at-clashes .before .if1 .left)
           (sym (at-clashes .clashes .ensures) ∙ c .before .if2 .taken),
-      c .stopped2 .ensures .1,
+      c .nothing-mapped2 .ensures .1,
     )
 
 with-requires : tie.Need-with-requires

@@ -7,9 +7,10 @@ use native.Mathlib.Numerals.{add-one}
 use native.Mathlib.Omega.{arith}
 use lib.ListN.{length, drop}
 use borrow.Author.Needs.{needs}
+use Rattle.tags.specs.Limits.{subsetLimit}
 use Rattle.tags.specs.Dimmer.{overlapsAny}
 use Rattle.tags.specs.Layout.{mappingOf}
-use Rattle.tags.specs.SubsetLaws.{drop-subsets, drop-subsets-end}
+use Rattle.tags.proofs.SubsetLaws.{drop-subsets, drop-subsets-end}
 use Rattle.tags.proofs.dimming.shares_any.Statement.{statement}
 use Rattle.tags.proofs.dimming.shares_any.Tie as tie
 
@@ -31,8 +32,8 @@ loop-again c =
     let turn = c .before .before .before in
     let j = turn .before .loop .j in
     let d = turn .before .before .args .t3 in
-    let hb : length (d .bases) ≡ 32 = search needs in
-    let hc : length (d .counts) ≡ 32 = search needs in (
+    let hb : length (d .bases) ≡ subsetLimit = search needs in
+    let hc : length (d .counts) ≡ subsetLimit = search needs in (
       search needs,
       rw (or-assoc, c .share .ensures, add-one j)
           (rw (drop-subsets (d .count) j (d .bases) (d .counts) (omega arith) (omega arith) (omega arith)) at (turn .before .loop .inv .1)),
@@ -42,8 +43,8 @@ returns : tie.Need-returns Inv-loop μ-loop
 unfolding overlapsAny
 returns c =
     let d = c .before .before .args .t3 in
-    let hb : length (d .bases) ≡ 32 = search needs in
-    let hc : length (d .counts) ≡ 32 = search needs in
+    let hb : length (d .bases) ≡ subsetLimit = search needs in
+    let hc : length (d .counts) ≡ subsetLimit = search needs in
     sym (or-false (c .before .loop .hit))
     ∙ (rw (drop-subsets-end (d .count) (c .before .loop .j) (d .bases) (d .counts) (omega arith) (omega arith)) at (c .before .loop .inv .1))
 

@@ -3,11 +3,17 @@
 use Prim.Native.Nat.{_<_}
 use mathlib.Core.Path.{_≡_}
 use native.Mathlib.Omega.{arith}
+use mir.Syntax.{w8}
+use mir.Val.{Fits}
 use lib.ListN.{length}
 use borrow.Author.Needs.{needs}
+use Rattle.tags.specs.Limits.{subsetLimit}
+use Rattle.tags.specs.Dimmer.{baseOf, countOf}
 use Rattle.tags.specs.Layout.{mappingOf}
-use Rattle.tags.specs.SubsetLaws.{length-subsets-to}
-use Rattle.tags.specs.DimmerLaws.{clash-room, mapping-with-base, mapping-with-void, mapping-with-subset}
+use Rattle.tags.specs.DimmerView.{DimmerFilled}
+use Rattle.tags.proofs.SubsetLaws.{length-subsets-to}
+use Rattle.tags.specs.DimmerLaws.{clash-room, base-of, count-of}
+use Rattle.tags.proofs.DimmerWalkLaws.{mapping-with-base, mapping-with-void, mapping-with-subset, padded-subset}
 use Rattle.tags.proofs.dimming.with.Statement.{statement}
 use Rattle.tags.proofs.dimming.with.Tie as tie
 
@@ -18,12 +24,12 @@ returns c =
       search needs,
     )
 
-room : (c : tie.Then2) → c .before .before .before .before .args .dimmer .count < 32
+room : (c : tie.Then2) → c .before .before .before .before .args .dimmer .count < subsetLimit
 room c =
     let start = c .before .before .before .before in
     let d = start .args .dimmer in
-    let hb : length (d .bases) ≡ 32 = search needs in
-    let hc : length (d .counts) ≡ 32 = search needs in
+    let hb : length (d .bases) ≡ subsetLimit = search needs in
+    let hc : length (d .counts) ≡ subsetLimit = search needs in
     omega (
       arith,
       clash-room (start .args .tags .now) (start .args .i) (mappingOf d) (c .if2 .taken) (start .pre .1),
@@ -42,11 +48,17 @@ returns-2 c =
     let a = tagged .before .before .before .before .args in
     let d = a .dimmer in
     let few = room tagged in
-    let hb : length (d .bases) ≡ 32 = search needs in
-    let hc : length (d .counts) ≡ 32 = search needs in (
-      mapping-with-subset (a .tags .now) (a .i) d (c .before .before .pair-at2 .result) (c .before .at .result) (tagged .if2 .taken)
+    let b = c .before .before .pair-at2 .result in
+    let k = c .before .at .result in
+    let octet : Fits w8 k = search needs in
+    let filled : DimmerFilled d = search needs in
+    let hb : length (d .bases) ≡ subsetLimit = search needs in
+    let hc : length (d .counts) ≡ subsetLimit = search needs in
+    let bases = padded-subset baseOf (d .count) (d .bases) (d .counts) (d .bases) b k b hb hc few (filled .1) (base-of b k (octet .fits)) in
+    let counts = padded-subset countOf (d .count) (d .bases) (d .counts) (d .counts) b k k hb hc few (filled .2) (count-of b k (octet .fits)) in (
+      mapping-with-subset (a .tags .now) (a .i) d b k (tagged .if2 .taken)
           (c .before .before .pair-at2 .ensures) (c .before .at .ensures) (omega arith) (omega arith),
-      search needs,
+      (search needs, bases, counts),
     )
 
 returns-3 : tie.Need-returns-3

@@ -1,5 +1,4 @@
 -- `gather::has_role`: in the loop `found` says whether one of the first `i` octets has the role.
--- Assumes nothing.
 use mathlib.Core.Path.{_≡_, refl, ap, _∙_}
 use Prim.Native.Nat.{ℕ, _≤_, _<_, _-_}
 use native.Mathlib.Nat.{le-antisymm}
@@ -9,7 +8,8 @@ use borrow.Author.Needs.{needs}
 use lib.ListN.{length, take}
 use lib.Seq.{take-suc}
 use Rattle.samples.specs.Roles.{placeOf, has}
-use Rattle.tags.specs.DictionaryLaws.{has-more}
+use Rattle.tags.specs.Limits.{octetLimit}
+use Rattle.tags.proofs.DictionaryWalkLaws.{has-more}
 use Rattle.tags.proofs.gather.has_role.Statement.{statement}
 use Rattle.tags.proofs.gather.has_role.Tie as tie
 
@@ -26,7 +26,7 @@ loop-holds c = (search needs, refl)
 loop-again : tie.Need-loop-again Inv-loop μ-loop
 loop-again c =
     let a = c .before .before .args in
-    let l : length (a .t1) ≡ 32 = search needs in
+    let l : length (a .t1) ≡ octetLimit = search needs in
     let h : c .before .loop .i < length (a .t1) = omega arith in
     (search needs, rw (add-one, take-suc (a .t1) (c .before .loop .i) 0 h, has-more, ← (c .before .loop .inv .1)))
 

@@ -1,12 +1,13 @@
 -- `gather::layout_with`: role, wavelength and space modifier one after the other are `sampleWith`.
--- Assumes nothing.
 use mathlib.Core.Path.{ap, _∙_}
 use Prim.Native.Nat.{ℕ}
 use borrow.Author.Needs.{needs}
+use Rattle.tags.specs.Limits.{octetLimit, colourLimit}
 use Rattle.tags.specs.Dictionary.{sampleWith}
 use Rattle.tags.specs.Layout.{sampleOf}
 use Rattle.tags.specs.DictionaryView.{withRole, withWave, withSpace}
-use Rattle.tags.specs.DictionaryLaws.{length-used, unrepeated-octet, unrepeated-colour}
+use Rattle.tags.specs.DictionaryLaws.{unrepeated-octet, unrepeated-colour}
+use Rattle.tags.proofs.ArrayLaws.{length-used}
 use Rattle.tags.proofs.gather.layout_with.Statement.{statement}
 use Rattle.tags.proofs.gather.layout_with.Tie as tie
 
@@ -15,7 +16,7 @@ with-role-requires c κs =
     let s = c .before .before in
     let l = s .args .p .layout in (
       search needs,
-      rw (length-used (l .roles) 32 (l .width) (search needs) (search needs)) at (unrepeated-octet (s .args .w) (sampleOf l) (s .pre .1)),
+      rw (length-used (l .roles) octetLimit (l .width) (search needs) (search needs)) at (unrepeated-octet (s .args .w) (sampleOf l) (s .pre .1)),
     )
 
 with-wave-requires : tie.Need-with-wave-requires
@@ -24,7 +25,7 @@ with-wave-requires c κs =
     let l = s .args .p .layout in (
       search needs,
       rw (c .with-role .ensures .1 .1)
-          (rw (length-used (l .waves) 8 (l .colours) (search needs) (search needs)) at (unrepeated-colour (s .args .w) (sampleOf l) (s .pre .1))),
+          (rw (length-used (l .waves) colourLimit (l .colours) (search needs) (search needs)) at (unrepeated-colour (s .args .w) (sampleOf l) (s .pre .1))),
     )
 
 returns : tie.Need-returns

@@ -1,11 +1,11 @@
 -- `gather::role_for`: the tests are those by which `roleFor` chooses.
--- Assumes nothing.
 use mathlib.Core.Path.{sym, _∙_}
 use borrow.Author.Needs.{needs}
 use borrow.Author.Tests.{eq-eqb, ne-eqb}
+use Rattle.tags.specs.Limits.{colourLimit}
 use Rattle.tags.specs.Tag.{isSingle}
 use Rattle.tags.specs.Dictionary.{roleFor}
-use Rattle.tags.specs.DictionaryLaws.{length-used}
+use Rattle.tags.proofs.ArrayLaws.{length-used}
 use Rattle.tags.proofs.gather.role_for.Statement.{statement}
 use Rattle.tags.proofs.gather.role_for.Tie as tie
 
@@ -15,13 +15,13 @@ returns c =
     let l = c .before .before .before .args .p .layout in
     rw (
       sym (c .before .before .is-signal .ensures) ∙ c .before .if1 .taken,
-      length-used (l .waves) 8 (l .colours) (search needs) (search needs),
+      length-used (l .waves) colourLimit (l .colours) (search needs) (search needs),
       ← (c .slot-for .ensures .0),
     )
 
 returns-2 : tie.Need-returns-2
 unfolding roleFor isSingle
-returns-2 c = rw (c .before .if2 .taken)
+returns-2 c = rw (c .if2 .taken)
 
 returns-3 : tie.Need-returns-3
 unfolding roleFor
@@ -49,7 +49,6 @@ role-for-spec =
     (λ c κs. search needs)
     (λ c. search needs)
     returns
-    (λ c. search needs)
     returns-2
     (λ c. search needs)
     (λ c. search needs)

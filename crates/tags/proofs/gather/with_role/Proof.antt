@@ -1,24 +1,25 @@
 -- `gather::with_role`: where the tag adds to `roles`, the array has room for it.
--- Assumes nothing.
 use mathlib.Core.Path.{sym, _∙_}
 use borrow.Author.Needs.{needs}
+use Rattle.tags.specs.Limits.{octetLimit}
 use Rattle.tags.specs.Tag.{takesOctet}
-use Rattle.tags.specs.DictionaryLaws.{room-left, take-more}
+use Rattle.tags.proofs.ArrayLaws.{room-left, take-more, padded-more}
 use Rattle.tags.proofs.gather.with_role.Statement.{statement}
 use Rattle.tags.proofs.gather.with_role.Tie as tie
 
 element-write-next : tie.Need-element-write-next
 element-write-next c =
     let s = c .before .before .before in
-    room-left (takesOctet (s .args .w)) 32 (s .args .l .width) (s .pre .1)
+    room-left (takesOctet (s .args .w)) octetLimit (s .args .l .width) (s .pre .1)
     (sym (c .before .before .takes-octet .ensures) ∙ c .before .if1 .taken)
 
 returns : tie.Need-returns
 returns c =
     let s = c .before .before .before .before in
     let t = sym (c .before .before .before .takes-octet .ensures) ∙ c .before .before .if1 .taken in
-    let h = room-left (takesOctet (s .args .w)) 32 (s .args .l .width) (s .pre .1) t in
-    (rw (t, take-more (s .args .l .roles) 32 (s .args .l .width) _ (search needs) h), search needs)
+    let h = room-left (takesOctet (s .args .w)) octetLimit (s .args .l .width) (s .pre .1) t in
+    let more = padded-more (s .args .l .roles) octetLimit (s .args .l .width) (s .args .role) (search needs) h (search needs) in
+    (rw (t, take-more (s .args .l .roles) octetLimit (s .args .l .width) _ (search needs) h), ((search needs, more, search needs), search needs))
 
 returns-2 : tie.Need-returns-2
 returns-2 c = (rw (sym (c .before .takes-octet .ensures) ∙ c .if1 .left), search needs)

@@ -1,5 +1,4 @@
 -- `gather::with_space`: the test is the one by which `withSpace` chooses.
--- Assumes nothing.
 use borrow.Author.Needs.{needs}
 use borrow.Author.Tests.{eq-eqb, ne-eqb}
 use Rattle.tags.proofs.gather.with_space.Statement.{statement}

@@ -11,8 +11,6 @@ use Rattle.tags.specs.ChoiceLaws.{or-cases}
 use Rattle.tags.specs.Dictionary.{noSample, walked, wordCount, dictionaryNumber, dictionarySample, hostNumber, hostSample}
 use Rattle.tags.proofs.host.mewkoast_layout.Statement.{statement}
 use Rattle.tags.proofs.host.mewkoast_layout.Tie as tie
-use Rattle.tags.proofs.host.mewkoast_layout.Reads as reads
-use Rattle.tags.proofs.host.mewkoast_layout.Lts as lts
 
 -- a mode that has a dictionary is an octet
 octet-mode : (mode : ℕ) → (eqb mode 1 || eqb mode 2) ≡ true → mode % 256 ≡ mode

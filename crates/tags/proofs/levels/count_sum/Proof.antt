@@ -7,9 +7,10 @@ use mir.Syntax.{w8}
 use mir.Val.{Fits}
 use lib.ListN.{length, getD, drop, drop-of-length-le}
 use borrow.Author.Needs.{needs}
+use Rattle.tags.specs.Limits.{subsetLimit}
 use Rattle.tags.specs.Layout.{mappingOf}
 use Rattle.tags.specs.Levels.{countSum}
-use Rattle.tags.specs.LevelsLaws.{count-sum-turn}
+use Rattle.tags.proofs.LevelWriteLaws.{count-sum-turn}
 use Rattle.tags.proofs.levels.count_sum.Statement.{statement}
 use Rattle.tags.proofs.levels.count_sum.Tie as tie
 
@@ -35,8 +36,8 @@ loop-again c =
     let at-loop = c .before .before in
     let d = at-loop .before .before .args .t1 in
     let j = at-loop .loop .j in
-    let hb : length (d .bases) ≡ 32 = search needs in
-    let hc : length (d .counts) ≡ 32 = search needs in
+    let hb : length (d .bases) ≡ subsetLimit = search needs in
+    let hc : length (d .counts) ≡ subsetLimit = search needs in
     let octet : Fits w8 (getD (d .counts) j 0) = search needs in
     let turn = count-sum-turn (d .count) j (d .bases) (d .counts) (omega arith) (omega arith) (omega arith) (octet .fits) in
     (search needs, omega arith, rw (add-one j) (omega (arith, turn)))

@@ -1,28 +1,19 @@
 -- `tags::levels::in_range` meets its contract. The loop's invariant: the flag with the subsets left is the test of all.
 use borrow.Author.Needs.{needs}
-use mathlib.Core.Path.{_≡_, refl, sym, ap, _∙_}
-use mathlib.Core.Bool.{Bool, true, false, _&&_}
+use mathlib.Core.Path.{_≡_, sym, ap, _∙_}
+use mathlib.Core.Bool.{Bool, _&&_, and-true, and-assoc}
 use Prim.Native.Nat.{_-_, _≤_}
 use native.Mathlib.Numerals.{add-one}
 use native.Mathlib.Omega.{arith}
 use mir.Syntax.{w8}
 use mir.Val.{Fits}
 use lib.ListN.{length, getD, drop, drop-of-length-le}
+use Rattle.tags.specs.Limits.{subsetLimit}
 use Rattle.tags.specs.Dimmer.{baseInRange, countInRange, allInRange, mappingInRange}
 use Rattle.tags.specs.Layout.{mappingOf}
-use Rattle.tags.specs.LevelsLaws.{in-range-turn}
+use Rattle.tags.proofs.LevelWriteLaws.{in-range-turn}
 use Rattle.tags.proofs.levels.in_range.Statement.{statement}
 use Rattle.tags.proofs.levels.in_range.Tie as tie
-use Rattle.tags.proofs.levels.in_range.Reads as reads
-use Rattle.tags.proofs.levels.in_range.Lts as lts
-
-and-assoc : (a b c : Bool) → a && b && c ≡ (a && (b && c))
-and-assoc true b c = refl
-and-assoc false b c = refl
-
-and-true : (a : Bool) → a && true ≡ a
-and-true true = refl
-and-true false = refl
 
 abbrev Inv-loop : tie.InvT-loop
 Inv-loop dimmer n ok₀ j₀ ok j = (j ≤ n) × (ok && allInRange (drop j (mappingOf dimmer .subsets)) ≡ mappingInRange (mappingOf dimmer))
@@ -38,8 +29,8 @@ loop-again c =
     let l = c .before .before .before .before .before in
     let d = l .before .before .before .args .t1 in
     let j = l .loop .j in
-    let hb : length (d .bases) ≡ 32 = search needs in
-    let hc : length (d .counts) ≡ 32 = search needs in
+    let hb : length (d .bases) ≡ subsetLimit = search needs in
+    let hc : length (d .counts) ≡ subsetLimit = search needs in
     let octet : Fits w8 (getD (d .counts) j 0) = search needs in
     let turn = in-range-turn (d .count) j (d .bases) (d .counts) (omega arith) (omega arith) (omega arith) (octet .fits) in (
       search needs,

@@ -1,6 +1,6 @@
 -- `tags::levels::put` meets its contract: each way out is one case of `putLevels`.
 use borrow.Author.Needs.{needs}
-use Rattle.tags.specs.LevelsLaws.{put-dropped, put-outside, put-within}
+use Rattle.tags.proofs.LevelWriteLaws.{put-dropped, put-outside, put-within}
 use Rattle.tags.proofs.levels.put.Statement.{statement}
 use Rattle.tags.proofs.levels.put.Tie as tie
 

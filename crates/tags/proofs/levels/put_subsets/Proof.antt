@@ -8,9 +8,11 @@ use mir.Syntax.{w8}
 use mir.Val.{Fits}
 use lib.ListN.{length, getD, drop, drop-of-length-le}
 use borrow.Author.Needs.{needs}
+use Rattle.tags.specs.Limits.{subsetLimit}
 use Rattle.tags.specs.Layout.{mappingOf}
 use Rattle.tags.specs.Levels.{countSum, mappedSum, putSubsets}
-use Rattle.tags.specs.LevelsLaws.{count-sum-turn, mapped-sum-turn, put-subsets-part, mapped-le-count}
+use Rattle.tags.specs.LevelsLaws.{mapped-le-count}
+use Rattle.tags.proofs.LevelWriteLaws.{count-sum-turn, mapped-sum-turn, put-subsets-part}
 use Rattle.tags.specs.declared.Dimmer.{Dimmer}
 use Rattle.tags.proofs.levels.put_subsets.Statement.{statement}
 use Rattle.tags.proofs.levels.put_subsets.Tie as tie
@@ -26,67 +28,87 @@ Inv-loop mode octets levels₀ dimmer n written₀ from₀ j₀ levels written f
 abbrev μ-loop : tie.MeasureT-loop
 μ-loop mode octets levels₀ dimmer n written₀ from₀ j₀ levels written from j = n - j
 
+-- ---- the steps, each from the one after it
+
+abbrev start-of : tie.At-loop Inv-loop μ-loop → tie.Start Inv-loop μ-loop
+start-of c = c .before .before .before .before
+
+abbrev loop-at : tie.In-loop Inv-loop μ-loop → tie.At-loop Inv-loop μ-loop
+loop-at c = c .before
+
+abbrev turn-at : tie.After-count Inv-loop μ-loop → tie.In-loop Inv-loop μ-loop
+turn-at c = c .before .before
+
+abbrev count-at : tie.After-put Inv-loop μ-loop → tie.After-count Inv-loop μ-loop
+count-at c = c .before .before .before
+
+abbrev put-at : tie.After-counted Inv-loop μ-loop → tie.After-put Inv-loop μ-loop
+put-at c = c .before .before .before
+
+-- ---- the needs
+
 loop-holds : tie.Need-loop-holds Inv-loop μ-loop
 loop-holds c = (search needs, refl, omega arith, omega arith, refl)
 
--- the arrays hold 32 elements, the counts are octets, and the turn's is the j-th of the subsets
-pub record Turn (d : Dimmer) (j : ℕ) : Type 0 where
+-- the arrays hold as many elements as there may be subsets, the counts are octets, and the turn's is the j-th of the subsets
+record Turn (d : Dimmer) (j : ℕ) : Type 0 where
   pub held : j < d .count
   pub base : j < length (d .bases)
   pub count : j < length (d .counts)
   pub octet : getD (d .counts) j 0 < 256
 
-turn : (c : tie.In-loop Inv-loop μ-loop) → Turn (c .before .before .before .before .before .args .t1) (c .before .loop .j)
+turn : (c : tie.In-loop Inv-loop μ-loop) → Turn (start-of (loop-at c) .args .t1) (loop-at c .loop .j)
 turn c =
-    let d = c .before .before .before .before .before .args .t1 in
-    let hb : length (d .bases) ≡ 32 = search needs in
-    let hc : length (d .counts) ≡ 32 = search needs in
-    let octet : Fits w8 (getD (d .counts) (c .before .loop .j) 0) = search needs in
+    let d = start-of (loop-at c) .args .t1 in
+    let hb : length (d .bases) ≡ subsetLimit = search needs in
+    let hc : length (d .counts) ≡ subsetLimit = search needs in
+    let octet : Fits w8 (getD (d .counts) (loop-at c .loop .j) 0) = search needs in
     record { held = omega arith; base = omega arith; count = omega arith; octet = octet .fits }
 
 -- the turn's octets are within those of the chunk
 within : (c : tie.In-loop Inv-loop μ-loop)
-    → c .before .loop .from + getD (c .before .before .before .before .before .args .t1 .counts) (c .before .loop .j) 0
-    ≤ length (c .before .before .before .before .before .args .octets .now)
+    → loop-at c .loop .from + getD (start-of (loop-at c) .args .t1 .counts) (loop-at c .loop .j) 0
+    ≤ length (start-of (loop-at c) .args .octets .now)
 within c =
-    let start = c .before .before .before .before .before in
+    let start = start-of (loop-at c) in
     let d = start .args .t1 in
     let t = turn c in
-    omega (arith, count-sum-turn (d .count) (c .before .loop .j) (d .bases) (d .counts) (t .held) (t .base) (t .count) (t .octet), start .pre)
+    omega (arith, count-sum-turn (d .count) (loop-at c .loop .j) (d .bases) (d .counts) (t .held) (t .base) (t .count) (t .octet), start .pre)
 
 add-to : tie.Need-add-to Inv-loop μ-loop
-add-to c = omega (arith, within (c .before .before), c .before .before .before .before .before .before .before .good)
+add-to c = omega (arith, within (turn-at c), start-of (loop-at (turn-at c)) .good)
 
 part-put-start : tie.Need-part-put-start Inv-loop μ-loop
 part-put-start c = search needs
 
 part-put-end : tie.Need-part-put-end Inv-loop μ-loop
-part-put-end c = within (c .before .before)
+part-put-end c = within (turn-at c)
 
 add-written : tie.Need-add-written Inv-loop μ-loop
 add-written c =
-    let at-turn = c .before .before .before .before .before .before .before .before in
-    let start = at-turn .before .before .before .before .before in
+    let at-turn = turn-at (count-at (put-at c)) in
+    let at-loop = loop-at at-turn in
+    let start = start-of at-loop in
     let d = start .args .t1 in
     let t = turn at-turn in
     omega (
       arith,
-      mapped-sum-turn (d .count) (at-turn .before .loop .j) (d .bases) (d .counts) (t .held) (t .base) (t .count) (t .octet),
+      mapped-sum-turn (d .count) (at-loop .loop .j) (d .bases) (d .counts) (t .held) (t .base) (t .count) (t .octet),
       mapped-le-count (mappingOf d .subsets),
-      at-turn .before .loop .inv,
+      at-loop .loop .inv,
       start .pre,
       start .good,
     )
 
 loop-again : tie.Need-loop-again Inv-loop μ-loop
 loop-again c =
-    let at-turn = c .before .before .before .before .before .before .before .before in
-    let at-loop = at-turn .before in
-    let start = at-loop .before .before .before .before in
+    let at-put = put-at c in
+    let at-turn = turn-at (count-at at-put) in
+    let at-loop = loop-at at-turn in
+    let start = start-of at-loop in
     let d = start .args .t1 in
     let j = at-loop .loop .j in
-    let t = turn at-turn in
-    let at-put = c .before .before .before in (
+    let t = turn at-turn in (
       search needs,
       at-put .put .kept .1 .1 .1 .0 ∙ at-loop .loop .inv .1,
       rw (add-one j)
@@ -103,7 +125,7 @@ returns : tie.Need-returns Inv-loop μ-loop
 unfolding mappedSum putSubsets
 returns c =
     let at-loop = c .before in
-    let d = at-loop .before .before .before .before .args .t1 in
+    let d = start-of at-loop .args .t1 in
     let rest = drop-of-length-le (mappingOf d .subsets) {i = at-loop .loop .j} (omega (arith, c .loop-test .left, at-loop .before .held .ensures .0)) in
     let all = rw rest at (at-loop .loop .inv .3) in
     (rw rest at (at-loop .loop .inv .4), omega (arith, all))

@@ -3,7 +3,8 @@ use mathlib.Core.Path.{sym, _∙_}
 use borrow.Author.Needs.{needs}
 use borrow.Author.Tests.{not-true, not-false}
 use Rattle.tags.specs.Layout.{mappingOf}
-use Rattle.tags.specs.LevelsLaws.{drawn-none, drawn-whole, drawn-subsets, fit-sum}
+use Rattle.tags.specs.LevelsLaws.{fit-sum}
+use Rattle.tags.proofs.LevelWriteLaws.{drawn-none, drawn-whole, drawn-subsets}
 use Rattle.tags.proofs.levels.write.Statement.{statement}
 use Rattle.tags.proofs.levels.write.Tie as tie
 

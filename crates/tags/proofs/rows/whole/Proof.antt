@@ -3,8 +3,6 @@ use borrow.Author.Needs.{needs}
 use native.Mathlib.Nat.{mod-zero}
 use Rattle.tags.proofs.rows.whole.Statement.{statement}
 use Rattle.tags.proofs.rows.whole.Tie as tie
-use Rattle.tags.proofs.rows.whole.Reads as reads
-use Rattle.tags.proofs.rows.whole.Lts as lts
 
 returns : tie.Need-returns
 returns c = rw (← c .before .octets-of .ensures, c .if1 .taken, mod-zero)

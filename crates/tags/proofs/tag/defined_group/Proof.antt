@@ -1,5 +1,4 @@
 -- `tag::defined_group` computes `definedGroup`.
--- Assumes nothing.
 use mathlib.Core.Path.{refl}
 use Rattle.tags.specs.Tag.{definedGroup}
 use Rattle.tags.proofs.tag.defined_group.Statement.{statement}

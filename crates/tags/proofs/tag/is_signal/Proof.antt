@@ -1,5 +1,4 @@
 -- `tag::is_signal` computes `isSignal` from what its calls ensure.
--- Assumes nothing.
 use borrow.Author.Needs.{needs}
 use Rattle.tags.proofs.tag.is_signal.Statement.{statement}
 use Rattle.tags.proofs.tag.is_signal.Tie as tie

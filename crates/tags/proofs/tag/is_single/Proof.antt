@@ -1,5 +1,4 @@
 -- `tag::is_single` computes `isSingle`.
--- Assumes nothing.
 use mathlib.Core.Path.{refl}
 use Rattle.tags.specs.Tag.{isSingle}
 use Rattle.tags.proofs.tag.is_single.Statement.{statement}

@@ -1,5 +1,4 @@
 -- `tag::known_tag` computes `knownTag` from what its calls ensure.
--- Assumes nothing.
 use borrow.Author.Needs.{needs}
 use Rattle.tags.specs.Tag.{knownTag}
 use Rattle.tags.proofs.tag.known_tag.Statement.{statement}

@@ -1,5 +1,4 @@
 -- `tag::reserved_space` computes `reservedSpace`.
--- Assumes nothing.
 use mathlib.Core.Path.{refl}
 use Rattle.tags.specs.Tag.{reservedSpace}
 use Rattle.tags.proofs.tag.reserved_space.Statement.{statement}

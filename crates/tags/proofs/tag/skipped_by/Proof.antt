@@ -1,5 +1,4 @@
 -- `tag::skipped_by`: the test is the one by which the contract chooses.
--- Assumes nothing.
 use borrow.Author.Tests.{lt-ltb, le-ltb}
 use Rattle.tags.proofs.tag.skipped_by.Statement.{statement}
 use Rattle.tags.proofs.tag.skipped_by.Tie as tie

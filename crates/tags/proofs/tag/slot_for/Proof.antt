@@ -1,5 +1,4 @@
 -- `tag::slot_for`: where the tag is found, `slotFor` computes at it; at the end it is none of the eight.
--- Assumes nothing.
 use borrow.Author.Needs.{needs}
 use borrow.Author.Tests.{ne-eqb}
 use Rattle.tags.specs.Tag.{slotFor}

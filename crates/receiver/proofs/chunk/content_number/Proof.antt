@@ -1,0 +1,54 @@
+-- `receiver::chunk::content_number` meets its contract: what governs a wave or frame is the layout, dimmer levels the mapping.
+use borrow.Author.Needs.{needs}
+use mathlib.Core.Path.{sym, _∙_}
+use Rattle.receiver.specs.Chunk.{chunk}
+use Rattle.receiver.specs.Checks.{contentNumber}
+use Rattle.receiver.proofs.ChunkLaws.{body-few, drawing-sample, isDimming-mapping}
+use Rattle.receiver.proofs.chunk.content_number.Statement.{statement}
+use Rattle.receiver.proofs.chunk.content_number.Tie as tie
+use Rattle.receiver.proofs.chunk.content_number.Reads as reads
+use Rattle.receiver.proofs.chunk.content_number.Lts as lts
+
+draw-number-requires : tie.Need-draw-number-requires
+draw-number-requires c κs =
+    let b = c .before .before .before in
+    let s = b .before .before in
+    rw (b .body-of .ensures (s .args .chunk-type)) (body-few (chunk (s .args .chunk-type) (s .args .octets .now)) (s .pre))
+
+returns : tie.Need-returns
+unfolding contentNumber
+returns c =
+    let d = c .before .before .before in
+    let s = d .before .before .before in
+    let draws = sym (d .is-drawing .ensures) ∙ c .before .before .if1 .taken in
+    rw (draws, drawing-sample (s .args .chunk-type) (s .args .k) draws, ← d .before .body-of .ensures (s .args .chunk-type)) (c .draw-number .ensures)
+
+returns-2 : tie.Need-returns-2
+unfolding contentNumber
+returns-2 c =
+    let m = c .before .before .before in
+    let d = m .before .before in
+    let s = d .before .before .before in
+    let draws = sym (d .is-drawing .ensures) ∙ m .before .if1 .left in
+    let dims = sym (m .is-dimming .ensures) ∙ c .before .before .if2 .taken in
+    rw (draws, dims, isDimming-mapping (s .args .chunk-type) (s .args .k) dims, ← d .before .body-of .ensures (s .args .chunk-type)) (c .dim-number .ensures)
+
+returns-3 : tie.Need-returns-3
+unfolding contentNumber
+returns-3 c =
+    let m = c .before in
+    let d = m .before .before in
+    rw (sym (d .is-drawing .ensures) ∙ m .before .if1 .left, sym (m .is-dimming .ensures) ∙ c .if2 .left)
+
+pub content-number-spec : {M : Type 1} → statement M
+content-number-spec =
+    tie.close
+    (tie.spec
+    (λ c κs. search needs)
+    (λ c κs. search needs)
+    draw-number-requires
+    returns
+    (λ c κs. search needs)
+    (λ c κs. search needs)
+    returns-2
+    returns-3)

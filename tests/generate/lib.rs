@@ -1,0 +1,19 @@
+//! What the comparisons offer: dictionaries by hand and at random, and streams
+//! of messages that fit what the receiver has come to, most of them, with the
+//! lengths of the slices lent. The same seed gives the same streams. It uses
+//! the decoder of tests/decoder to know what a channel has come to; what is
+//! expected of a message is the decoder's to say.
+
+mod damage;
+mod data;
+pub mod dictionaries;
+pub mod end_to_end;
+pub mod random;
+pub mod random_dictionary;
+pub mod stream;
+mod words;
+
+#[cfg(test)]
+mod coverage;
+#[cfg(test)]
+mod histories;
