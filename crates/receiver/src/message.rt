@@ -66,9 +66,12 @@ fn governing(held: Config, m: &[u8], h: Header) -> Found
 fn has_holder(states: [u8; 64], h: Header) -> bool
     ensures { λ r. ⌜ r ≡ (h .routing && (exclusiveMode (h .mode) && heldStates states (h .mode) (h .channel .0) 64)) ⌝ }
 {
-    let at = h.channel.0 as usize;
-    let elsewhere = held_elsewhere(states, h.mode, at);
-    h.routing & (exclusive_mode(h.mode) & elsewhere)
+    let asked = h.routing & exclusive_mode(h.mode);
+    if asked {
+        let at = h.channel.0 as usize;
+        return held_elsewhere(states, h.mode, at);
+    }
+    false
 }
 
 // Every check in order, of what the record shows: whether it is consistent, its states, what the message's channel holds, its meters.
