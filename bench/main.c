@@ -1,14 +1,17 @@
 /*
- * Measures mewkoast_draw, a plain C decoder and a memset of the same rows in
- * one run, and prints nanoseconds a point. The exit status is not 0 only if
- * the outputs differ; no time is judged.
+ * Measures mewkoast_draw, C decoders and a memset of the same rows in one run,
+ * and prints nanoseconds a point. The exit status is not 0 only if the outputs
+ * differ or a file cannot be written; no time is judged.
+ *
+ * usage: draw [FILE]
+ *
+ * The times are also written to FILE in the form that picture.rs reads.
  */
 #define _POSIX_C_SOURCE 199309L
 
-#include "plain.h"
+#include "ways.h"
 
 #include <stdio.h>
-#include <stdlib.h>
 #include <string.h>
 #include <time.h>
 
@@ -17,8 +20,29 @@ enum { MOST_POINTS = 1000, MOST_TAGS = 40 };
 /* A run is shorter than a turn of the scheduler, so that some are undisturbed. */
 enum { RUNS = 500, POINTS_A_RUN = 20000 };
 
+/* Every decoder writes at least these octets. */
+static size_t write_zeros(mewkoast_sample_layout layout, const uint8_t *octets,
+                          size_t n, int32_t *rows, size_t rows_length)
+{
+    (void)octets, (void)n, (void)layout;
+    memset(rows, 0, rows_length * sizeof *rows);
+    return 0;
+}
+
 /* The ways that are compared. */
-enum { PROVED, PLAIN, PREPARED, FLOOR, WAYS };
+enum { SLOTS, PROVED, LISTS, BLOCKS, FLOOR, WAYS };
+
+static const struct {
+    const char *name;
+    size_t (*draw)(mewkoast_sample_layout layout, const uint8_t *octets,
+                   size_t n, int32_t *rows, size_t rows_length);
+} ways[WAYS] = {
+    [SLOTS] = {"C slots", slots_draw},
+    [PROVED] = {"proved", mewkoast_draw},
+    [LISTS] = {"C lists", plain_draw},
+    [BLOCKS] = {"C blocks", blocks_draw},
+    [FLOOR] = {"floor", write_zeros},
+};
 
 typedef struct {
     const char *name;
@@ -28,9 +52,16 @@ typedef struct {
 static const dictionary dictionaries[] = {
     /* IDN-Stream, 3.4.11: X and Y with precision, three colours. */
     {"sparse", {0x4200, 0x4010, 0x4210, 0x4010, 0x527E, 0x5214, 0x51CC}},
+    /* The same with five colours and a hint. */
+    {"hint", {0x4101, 0x4200, 0x4010, 0x4210, 0x4010, 0x527E, 0x5214, 0x51CC,
+              0x51BD, 0x5241}},
     /* 3.4.10 without the second X: hint, intensity, six colours, X and Y. */
     {"usual", {0x4101, 0x5C10, 0x527E, 0x5214, 0x51CC, 0x51BD, 0x5241, 0x51E8,
                0x4200, 0x4010, 0x4210, 0x4010}},
+    /* The same with Z, and precision for each. */
+    {"precise", {0x4101, 0x5C10, 0x4010, 0x527E, 0x4010, 0x5214, 0x4010, 0x51CC,
+                 0x4010, 0x51BD, 0x4010, 0x5241, 0x4010, 0x51E8, 0x4010, 0x4200,
+                 0x4010, 0x4210, 0x4010, 0x4220, 0x4010}},
     /* Every signal, eight colours, four of them with a precise prefix. */
     {"full", {0x4101, 0x4200, 0x4010, 0x4210, 0x4010, 0x4220, 0x4010, 0x4201,
               0x4010, 0x4211, 0x4010, 0x5C10, 0x4010, 0x5C20, 0x527E, 0x4010,
@@ -56,7 +87,6 @@ static const dictionary parts[] = {
 
 typedef struct {
     mewkoast_sample_layout layout;
-    plain_plan plan;
     uint8_t octets[MOST_POINTS * 32];
     size_t n;
     size_t points;
@@ -107,7 +137,6 @@ static int make(chunk *c, const dictionary *d)
     }
     checked = mewkoast_layout(1, octets, length);
     c->layout = checked.layout;
-    plain_prepare(&c->layout, &c->plan);
     if (checked.number == 0)
         fill(c);
     return checked.number == 0;
@@ -115,30 +144,22 @@ static int make(chunk *c, const dictionary *d)
 
 static size_t call(int way, const chunk *c, int32_t *out)
 {
-    switch (way) {
-    case PROVED:
-        return mewkoast_draw(c->layout, c->octets, c->n, out, c->points * MEWKOAST_ROW);
-    case PLAIN:
-        return plain_draw(c->layout, c->octets, c->n, out, c->points * MEWKOAST_ROW);
-    case PREPARED:
-        return plain_draw_prepared(&c->plan, c->octets, c->n, out, c->points * MEWKOAST_ROW);
-    default:
-        memset(out, 0, c->points * MEWKOAST_ROW * sizeof *out);
-        return 0;
-    }
+    return ways[way].draw(c->layout, c->octets, c->n, out, c->points * MEWKOAST_ROW);
 }
 
-/* True if the proved and the plain decoder agree on 0 to all points. */
+/* True if the decoders agree on 0 to all points. */
 static int equal(chunk *c)
 {
     for (c->points = 0; c->points <= MOST_POINTS; c->points++) {
+        size_t lit;
+
         c->n = c->points * c->layout.width;
         memset(rows, 0x55, sizeof rows);
-        for (int way = PLAIN; way <= PREPARED; way++) {
+        lit = call(PROVED, c, rows);
+        for (int way = 0; way < FLOOR; way++) {
             memset(other_rows, 0x55, sizeof other_rows);
-            if (call(PROVED, c, rows) != call(way, c, other_rows))
-                return 0;
-            if (memcmp(rows, other_rows, sizeof rows) != 0)
+            if (call(way, c, other_rows) != lit ||
+                memcmp(rows, other_rows, sizeof rows) != 0)
                 return 0;
         }
     }
@@ -168,7 +189,8 @@ static double measure(int way, const chunk *c)
     return (seconds() - start) * 1e9 / (double)(calls * c->points);
 }
 
-static void compare(const char *name, chunk *c, size_t points)
+/* Prints a line and, where there is a file, writes it too. */
+static void compare(const char *name, chunk *c, size_t points, FILE *times)
 {
     double best[WAYS];
 
@@ -183,36 +205,74 @@ static void compare(const char *name, chunk *c, size_t points)
             if (run == 1 || (run > 1 && time < best[way]))
                 best[way] = time;
         }
-    printf("%-9s %6d %6zu %8.2f %8.2f %8.2f %8.2f %9.2f %13.2f\n", name,
-           c->layout.width, points, best[PROVED], best[PLAIN], best[PREPARED],
-           best[FLOOR], best[PROVED] / best[PLAIN], best[PROVED] / best[FLOOR]);
+    printf("%-9s %6d %6zu", name, c->layout.width, points);
+    for (int way = 0; way < WAYS; way++)
+        printf(" %8.2f", best[way]);
+    printf(" %13.2f %12.2f\n", best[PROVED] / best[BLOCKS], best[PROVED] / best[LISTS]);
+    if (times == NULL)
+        return;
+    fprintf(times, "case\t%s, %d octets", name, c->layout.width);
+    for (int way = 0; way < WAYS; way++)
+        fprintf(times, "\t%.3f", best[way]);
+    fputc('\n', times);
 }
 
-/* Prints a line for each dictionary and number of points; 0 if one differs. */
-static int table(const dictionary *list, size_t count, size_t most)
+static void head(const char *title, FILE *times)
+{
+    printf("%s\nlayout    octets points", title);
+    for (int way = 0; way < WAYS; way++)
+        printf(" %8s", ways[way].name);
+    printf(" proved/blocks proved/lists\n");
+    if (times != NULL)
+        fprintf(times, "panel\t%s\n", title);
+}
+
+/* Prints a line for each dictionary; 0 if one differs. */
+static int table(const char *title, const dictionary *list, size_t count,
+                 size_t points, FILE *times)
 {
     static chunk c;
 
-    printf("layout    octets points   proved        C   C-plan    floor  proved/C"
-           "  proved/floor\n");
+    head(title, times);
     for (size_t i = 0; i < count; i++) {
         if (!make(&c, &list[i]) || !equal(&c)) {
             printf("%s: the outputs differ\n", list[i].name);
             return 0;
         }
-        for (size_t points = 100; points <= most; points *= 10)
-            compare(list[i].name, &c, points);
+        compare(list[i].name, &c, points, times);
     }
+    printf("\n");
     return 1;
 }
 
-int main(void)
+static int tables(FILE *times)
 {
     size_t count = sizeof dictionaries / sizeof *dictionaries;
 
-    printf("ns a point, best of %d alternating runs\n", RUNS);
-    if (!table(dictionaries, count, MOST_POINTS))
+    printf("ns a point, best of %d alternating runs\n\n", RUNS);
+    return table("chunks of 100 points", dictionaries, count, 100, times) &&
+           table("chunks of 1,000 points", dictionaries, count, MOST_POINTS, times) &&
+           table("100 points, one thing more in each", parts, sizeof parts / sizeof *parts,
+                 100, times);
+}
+
+int main(int argc, char **argv)
+{
+    FILE *times = argc > 1 ? fopen(argv[1], "w") : NULL;
+    int done;
+
+    if (argc > 1 && times == NULL) {
+        perror(argv[1]);
         return 1;
-    printf("\nwith one thing more in each\n");
-    return table(parts, sizeof parts / sizeof *parts, 100) ? 0 : 1;
+    }
+    if (times != NULL) {
+        fputs("ways", times);
+        for (int way = 0; way < WAYS; way++)
+            fprintf(times, "\t%s", ways[way].name);
+        fputc('\n', times);
+    }
+    done = tables(times);
+    if (times != NULL && fclose(times) != 0)
+        return 1;
+    return done ? 0 : 1;
 }

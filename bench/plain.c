@@ -1,9 +1,36 @@
-/* Written from document 01, "One row", and the roles of include/mewkoast.h. */
-#include "plain.h"
+#include "signals.h"
+#include "ways.h"
 
 #include <string.h>
 
-enum { LAST_COORDINATE = 4, SHUTTER = 5, INTENSITY = 6, COLOURS = 8, WAVES = 16 };
+/* One signal: its slot in the row and its first octet in the sample. */
+typedef struct {
+    uint8_t slot;
+    uint8_t place;
+} plain_signal;
+
+/*
+ * Signals of one kind. Those with precision stand in a list of their own, so
+ * that no signal is tested for precision at each point.
+ */
+typedef struct {
+    plain_signal one[24];
+    plain_signal two[24];
+    uint8_t ones;
+    uint8_t twos;
+} plain_list;
+
+/* What is worked out once for a call. */
+typedef struct {
+    int32_t row[MEWKOAST_ROW]; /* every number that no sample changes */
+    plain_list coordinates;    /* signed */
+    plain_list plain;          /* brush and prefixed wavelengths */
+    plain_list intensity;      /* divided by the intensity scale */
+    plain_list colours;        /* divided by the colour scale */
+    int hint;                  /* the place of the hint, -1 if there is none */
+    int shutter;               /* the hint holds the shutter */
+    size_t width;
+} plain_plan;
 
 static plain_list *list_of(plain_plan *plan, int slot)
 {
@@ -27,14 +54,21 @@ static void add_signal(plain_plan *plan, int slot, int place, int precise)
         list->one[list->ones++] = signal;
 }
 
-void plain_prepare(const mewkoast_sample_layout *layout, plain_plan *plan)
+/* The octet after a signal is its precision. */
+static int is_precise(const mewkoast_sample_layout *layout, int i)
+{
+    return i + 1 < layout->width &&
+           layout->roles[i + 1] == layout->roles[i] + TO_PRECISION;
+}
+
+static void make_plan(const mewkoast_sample_layout *layout, plain_plan *plan)
 {
     plan->coordinates.ones = plan->coordinates.twos = 0;
     plan->plain.ones = plan->plain.twos = 0;
     plan->intensity.ones = plan->intensity.twos = 0;
     plan->colours.ones = plan->colours.twos = 0;
-    plan->hint = -1;
-    plan->shutter = 0;
+    plan->hint = hint_of(layout);
+    plan->shutter = plan->hint >= 0 && layout->roles[plan->hint] == SHUTTER_HINT;
     plan->width = layout->width;
     memset(plan->row, 0, sizeof plan->row);
     plan->row[SHUTTER] = 1;
@@ -43,23 +77,21 @@ void plain_prepare(const mewkoast_sample_layout *layout, plain_plan *plan)
     for (int i = 0; i < layout->width; i++) {
         int role = layout->roles[i];
 
-        if (role >= 65) {
-            plan->hint = i;
-            plan->shutter = role == 66;
-        } else if (role >= 1 && role <= 24) {
-            int next = i + 1 < layout->width ? layout->roles[i + 1] : 0;
-
-            add_signal(plan, role - 1, i, next == role + 32);
-        }
+        if (role >= 1 && role <= MEWKOAST_ROW)
+            add_signal(plan, role - 1, i, is_precise(layout, i));
     }
 }
 
 /*
  * The points of a block are drawn a few signals at a time: slots and places
  * then stay in registers, and the inner loops over points have no test in
- * them. A block of rows, 12 KiB, stays in the nearest cache.
+ * them. A block of rows, 12 KiB, stays in the nearest cache. With GROUP 1 the
+ * signals are drawn one after the other.
  */
-enum { BLOCK = 128, GROUP = 4 };
+enum { BLOCK = 128 };
+#ifndef GROUP
+#define GROUP 4
+#endif
 
 /* What is done with the octets of a signal. */
 typedef enum { SIGNED, UNSIGNED, SHUTTER_BIT, SCALED, COLOUR, SCALED_COLOUR } kind;
@@ -74,8 +106,6 @@ typedef struct {
 } block;
 
 /* Every caller gives constants, and gcc makes one loop of each. */
-#define INLINE static inline __attribute__((always_inline))
-
 INLINE int32_t value(const uint8_t *octets, int precise, kind k, int shift)
 {
     int32_t number = precise ? octets[0] << 8 | octets[1] : octets[0] << 8;
@@ -87,10 +117,9 @@ INLINE int32_t value(const uint8_t *octets, int precise, kind k, int shift)
     return k == UNSIGNED || k == COLOUR ? number : number >> shift;
 }
 
-/* Twice the scale of a hint: bits 0-1 for colours, bits 2-3 for intensity. */
 INLINE int shift_of(uint8_t hint, kind k)
 {
-    return k == SCALED_COLOUR ? hint >> 5 & 6 : hint >> 3 & 6;
+    return k == SCALED ? intensity_shift(hint) : k == SCALED_COLOUR ? colour_shift(hint) : 0;
 }
 
 INLINE void draw_group(const plain_signal *signals, int count, int precise,
@@ -106,7 +135,7 @@ INLINE void draw_group(const plain_signal *signals, int count, int precise,
         slot[i] = signals[i].slot;
     }
     for (size_t p = 0; p < points; p++, octets += width, row += MEWKOAST_ROW) {
-        int shift = k == SCALED || k == SCALED_COLOUR ? shift_of(octets[hint], k) : 0;
+        int shift = shift_of(octets[hint], k);
         int32_t any = 0;
 
         for (int i = 0; i < count; i++) {
@@ -165,32 +194,23 @@ static size_t draw_block(const plain_plan *plan, block *b)
     return lit;
 }
 
-size_t plain_draw_prepared(const plain_plan *plan, const uint8_t *octets,
-                           size_t n, int32_t *rows, size_t rows_length)
+size_t plain_draw(mewkoast_sample_layout layout, const uint8_t *octets,
+                  size_t n, int32_t *rows, size_t rows_length)
 {
-    size_t points = n / plan->width, lit = 0;
+    size_t points = n / layout.width, lit = 0;
+    plain_plan plan;
     block b;
 
     if (rows_length < points * MEWKOAST_ROW)
         return 0;
-    b.width = plan->width;
-    b.hint = plan->hint >= 0 ? (size_t)plan->hint : 0;
+    make_plan(&layout, &plan);
+    b.width = plan.width;
+    b.hint = plan.hint >= 0 ? (size_t)plan.hint : 0;
     for (size_t p = 0; p < points; p += BLOCK) {
-        size_t left = points - p;
-
-        b.octets = octets + p * plan->width;
+        b.octets = octets + p * plan.width;
         b.rows = rows + p * MEWKOAST_ROW;
-        b.points = left < BLOCK ? left : BLOCK;
-        lit += draw_block(plan, &b);
+        b.points = points - p < BLOCK ? points - p : BLOCK;
+        lit += draw_block(&plan, &b);
     }
     return lit;
-}
-
-size_t plain_draw(mewkoast_sample_layout layout, const uint8_t *octets,
-                  size_t n, int32_t *rows, size_t rows_length)
-{
-    plain_plan plan;
-
-    plain_prepare(&layout, &plan);
-    return plain_draw_prepared(&plan, octets, n, rows, rows_length);
 }

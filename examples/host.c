@@ -33,11 +33,11 @@ static int32_t rows[NUMBERS];
 static uint8_t levels[LEVELS];
 
 /*
- * The receiver between calls, with the last reply. It is a value of about ten
- * thousand octets: a host on a small stack keeps it outside, as here. The
- * call still takes its own copies of it on the stack.
+ * The receiver, which each call changes in place. mewkoast_message takes it by
+ * value instead and hands back the next one; it copies the record and needs
+ * more stack.
  */
-static mewkoast_outcome state;
+static mewkoast_receiver receiver;
 
 /* Counts what is left of the input, so that "cut" can tell it. */
 static uint64_t count_rest(void)
@@ -76,12 +76,12 @@ static size_t read_message(uint64_t *cut)
     return size;
 }
 
-static void print_reply(const mewkoast_reply *reply)
+static void print_reply(mewkoast_reply reply)
 {
     printf("channel %u type %u number %u time %" PRIu32 " space %u points %" PRIu32
            " lit %" PRIu32 " levels %" PRIu32 "\n",
-           reply->channel, reply->chunk_type, reply->number, reply->timestamp,
-           reply->space, reply->points, reply->lit_points, reply->levels);
+           reply.channel, reply.chunk_type, reply.number, reply.timestamp,
+           reply.space, reply.points, reply.lit_points, reply.levels);
 }
 
 /*
@@ -95,16 +95,14 @@ static void run(void)
     uint64_t cut;
     size_t length;
 
-    /* 0 0 0 is within the limit, so the reply to start is no refusal. */
-    state = mewkoast_start(0, 0, 0);
-    while ((length = read_message(&cut)) > 0) {
-        state = mewkoast_message(state.receiver, message, length, rows, NUMBERS,
-                                 levels, LEVELS);
-        print_reply(&state.reply);
-    }
+    /* 0 0 0 is within the limit, so the reply is no refusal. */
+    mewkoast_begin(&receiver, 0, 0, 0);
+    while ((length = read_message(&cut)) > 0)
+        print_reply(mewkoast_offer(&receiver, message, length, rows, NUMBERS,
+                                   levels, LEVELS));
     if (cut > 0)
         printf("cut %" PRIu64 "\n", cut);
-    meters = mewkoast_readings(state.receiver);
+    meters = mewkoast_readings_of(&receiver);
     printf("meters %" PRIu64 " %" PRIu64 " %" PRIu64 "\n", meters.lit_time,
            meters.points, meters.lit_points);
 }

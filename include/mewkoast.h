@@ -14,9 +14,10 @@
  * and nothing else.
  *
  * For every function: the octets and tags lent need not be aligned and need
- * not have been checked; they are not changed, and no pointer is kept. The
- * slice written must not overlap the one read. Results depend on the
- * arguments alone, so calls on different slices can run at the same time.
+ * not have been checked; they are not changed, and no pointer is kept. What is
+ * written must not overlap anything else that is lent. Results depend on the
+ * arguments and what they point to alone, so calls on different memory can run
+ * at the same time.
  */
 #ifndef MEWKOAST_H
 #define MEWKOAST_H
@@ -24,7 +25,7 @@
 #include <stddef.h>
 #include <stdint.h>
 
-#define MEWKOAST_VERSION "0.4.0"
+#define MEWKOAST_VERSION "0.5.0"
 
 #ifdef __cplusplus
 extern "C" {
@@ -133,8 +134,9 @@ mewkoast_checked_dictionary mewkoast_layout(uint32_t mode, const uint8_t *tags,
  *
  * Any layout is answered, also one that the host made itself: a width above
  * 32 is read as 32 and colours above 8 as 8; with width 0 there are no points;
- * of two octets with one role the first counts, and 66 before 65; a role that
- * is not listed, or one of slot 5, is ignored.
+ * of two octets with one role the first counts, and 66 before 65; a precision
+ * octet of a signal without a first octet, a role that is not listed, and one
+ * of slot 5 are ignored.
  */
 size_t mewkoast_draw(mewkoast_sample_layout layout, const uint8_t *octets,
                      size_t n, int32_t *rows, size_t rows_length);
@@ -201,31 +203,29 @@ size_t mewkoast_levels(mewkoast_dimmer_mapping dimmer, uint8_t mode,
 /* ---- 5. The receiver ---------------------------------------------------- */
 
 /*
- * The receiver is a value: 64 channels and three meters, 9,880 octets. A host
- * keeps it between calls, copies it as it likes and hands it to the next call;
- * nothing is kept elsewhere. Its inner fields may change with a version: only
- * what the calls below give of it is promised. A host that keeps two outcomes
- * by turns, each in a local variable, can spare a copy a message: gcc then has
- * the call write the outcome where it is kept.
+ * The record of a receiver: 64 channels and three meters, 6,552 octets. The
+ * host keeps it between calls and copies it as it likes; nothing is kept
+ * elsewhere. Its inner fields may change with a version: only what the calls
+ * below give of it is promised.
+ *
+ * Two kinds of calls do the same. Those in place change the record where the
+ * host keeps it: mewkoast_begin, mewkoast_offer, mewkoast_readings_of. They
+ * copy nothing of it and take little stack. Those by value take a record and
+ * hand back the next: mewkoast_start, mewkoast_message, mewkoast_readings.
+ * They may be mixed.
  */
 typedef struct {
-    uint8_t states[64];
-    uint8_t matches[64];
-    mewkoast_sample_layout layouts[64];
-    mewkoast_dimmer_mapping dimmers[64];
-    uint64_t lit_time;
-    uint64_t points;
-    uint64_t lit_points;
+    uint64_t meters[3];
+    uint8_t channels[6528];
 } mewkoast_receiver;
 
 /*
  * The reply to a message. A refusal has 0 in all but the number:
  *
  *    1  the record given breaks the consistency rule (a meter above its
- *       limit; an unknown state; in a channel open in mode 1 or 2 counts
- *       beyond their arrays or an empty sample; in one open in mode 4 or 6 a
- *       count beyond its arrays, a base or count out of range, or a range
- *       with base + count above 513); it is handed back
+ *       limit; in a channel, open or closed, an unknown state, a size above
+ *       32 or above 8 colours), or its lent arrays have other lengths; it is
+ *       left, or handed back, as it came
  *    2  the length is below 8, above 65,280, or not Total Size
  *    3  the top bit of octet 2 is 0
  *    4  the type is not 0x00, 0x01, 0x02 or 0x18
@@ -251,7 +251,9 @@ typedef struct {
  *
  * An accepted message has number 0, its channel, chunk type and timestamp, the
  * space modifier in force (0 if none), its points, lit points and the levels
- * written.
+ * written. A range of levels that is not within 1 to 512, which no dimmer tags
+ * give but a record that the host changed may hold, takes its octets from the
+ * message like a dropped one: it is passed over and does not count as written.
  */
 typedef struct {
     uint8_t number;
@@ -283,29 +285,87 @@ typedef struct {
 } mewkoast_span;
 
 /*
- * A receiver newly started with three readings, every channel closed. Where a
- * reading is above the limit the reply has number 23 and all three are 0.
+ * In place, on the two arrays of a record. A host uses the three functions
+ * after these, which pass the arrays of its record on.
+ *
+ * The host owes valid pointers and lengths and nothing else: `channels` to
+ * `channels_length` octets and `meters` to `meters_length` numbers, aligned as
+ * uint64_t is, to be read and written; the rest as at mewkoast_offer. No two
+ * of them share memory. Arrays of other lengths than 6,528 and 3 get number 1,
+ * and nothing is written.
  */
+mewkoast_reply mewkoast_begin_on(uint8_t *channels, size_t channels_length,
+                                 uint64_t *meters, size_t meters_length,
+                                 uint64_t lit_time, uint64_t points,
+                                 uint64_t lit_points);
+mewkoast_reply mewkoast_offer_on(uint8_t *channels, size_t channels_length,
+                                 uint64_t *meters, size_t meters_length,
+                                 const uint8_t *octets, size_t length,
+                                 int32_t *rows, size_t rows_length,
+                                 uint8_t *levels, size_t levels_length);
+/* The three readings as they stand; a meter that is not lent is read as 0. */
+mewkoast_meters mewkoast_readings_on(const uint64_t *meters,
+                                     size_t meters_length);
+
+/*
+ * Starts a receiver with three readings, every channel closed, whatever the
+ * record held before. The reply is 0 in all but the number, which is 0, or 23
+ * where a reading is above the limit: then all three are 0.
+ */
+static inline mewkoast_reply
+mewkoast_begin(mewkoast_receiver *receiver, uint64_t lit_time, uint64_t points,
+               uint64_t lit_points)
+{
+    return mewkoast_begin_on(receiver->channels, sizeof receiver->channels,
+                             receiver->meters, 3, lit_time, points, lit_points);
+}
+
+/*
+ * Offers one message to the receiver, which is left as the next one, and gives
+ * the reply. After a refusal the record (19 apart, which closes the channel)
+ * and the lent rows and levels hold what they held; after an acceptance the
+ * decoded points from the start of `rows`, 24 numbers each, or the levels in
+ * their places, and nothing else new.
+ *
+ * The host owes valid pointers and lengths and nothing else: `octets` to
+ * `length` octets to be read, `rows` to `rows_length` numbers and `levels` to
+ * `levels_length` octets to be written, no two of them nor the record sharing
+ * memory. Any message, of any length and any octets, and any record get a
+ * reply.
+ */
+static inline mewkoast_reply
+mewkoast_offer(mewkoast_receiver *receiver, const uint8_t *octets,
+               size_t length, int32_t *rows, size_t rows_length,
+               uint8_t *levels, size_t levels_length)
+{
+    return mewkoast_offer_on(receiver->channels, sizeof receiver->channels,
+                             receiver->meters, 3, octets, length, rows,
+                             rows_length, levels, levels_length);
+}
+
+/* The three readings of a record as they stand. */
+static inline mewkoast_meters
+mewkoast_readings_of(const mewkoast_receiver *receiver)
+{
+    return mewkoast_readings_on(receiver->meters, 3);
+}
+
+/* By value: what mewkoast_begin does to a record, as the record handed back. */
 mewkoast_outcome mewkoast_start(uint64_t lit_time, uint64_t points,
                                 uint64_t lit_points);
 
 /*
- * Offers one message. The outcome holds the next receiver and the reply. After
- * a refusal the lent rows and levels hold what they held; after an acceptance
- * the decoded points from the start of `rows`, 24 numbers each, or the levels
- * in their places, and nothing else new.
- *
- * The host owes valid pointers and lengths and nothing else: `octets` to
- * `length` octets to be read, `rows` to `rows_length` numbers and `levels` to
- * `levels_length` octets to be written, no two of them sharing memory. Any
- * message, of any length and any octets, and any record get a reply.
+ * By value: what mewkoast_offer does to the record given, with the next one
+ * beside the reply; the one given stays as it is. A host that keeps two
+ * outcomes by turns, each in a local variable, can spare a copy a message: gcc
+ * then has the call write the outcome where it is kept.
  */
 mewkoast_outcome mewkoast_message(mewkoast_receiver receiver,
                                   const uint8_t *octets, size_t length,
                                   int32_t *rows, size_t rows_length,
                                   uint8_t *levels, size_t levels_length);
 
-/* The three readings of a record as they stand. */
+/* By value: what mewkoast_readings_of gives. */
 mewkoast_meters mewkoast_readings(mewkoast_receiver receiver);
 
 /*

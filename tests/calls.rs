@@ -67,18 +67,13 @@ pub struct CheckedMapping {
 #[repr(C)]
 #[derive(Clone, Copy, Debug, PartialEq, Eq)]
 pub struct Receiver {
-    pub states: [u8; 64],
-    pub matches: [u8; 64],
-    pub layouts: [SampleLayout; 64],
-    pub dimmers: [DimmerMapping; 64],
-    pub lit_time: u64,
-    pub points: u64,
-    pub lit_points: u64,
+    pub meters: [u64; 3],
+    pub channels: [u8; 6528],
 }
 
 /// mewkoast_reply.
 #[repr(C)]
-#[derive(Clone, Copy)]
+#[derive(Clone, Copy, Default)]
 pub struct Reply {
     pub number: u8,
     pub channel: u8,
@@ -135,6 +130,34 @@ extern "C" {
         levels_length: usize,
     ) -> Outcome;
     fn mewkoast_readings(receiver: Receiver) -> Readings;
+    fn mewkoast_begin_on(
+        channels: *mut u8,
+        channels_length: usize,
+        meters: *mut u64,
+        meters_length: usize,
+        lit_time: u64,
+        points: u64,
+        lit_points: u64,
+    ) -> Reply;
+    fn mewkoast_offer_on(
+        channels: *mut u8,
+        channels_length: usize,
+        meters: *mut u64,
+        meters_length: usize,
+        octets: *const u8,
+        length: usize,
+        rows: *mut i32,
+        rows_length: usize,
+        levels: *mut u8,
+        levels_length: usize,
+    ) -> Reply;
+    fn mewkoast_readings_on(meters: *const u64, meters_length: usize) -> Readings;
+}
+
+impl Readings {
+    fn three(&self) -> [u64; 3] {
+        [self.lit_time, self.points, self.lit_points]
+    }
 }
 
 impl Reply {
@@ -195,8 +218,7 @@ pub fn start([lit_time, points, lit_points]: [u64; 3]) -> Outcome {
 
 /// A host that keeps the outcome in one place has two copies of it made around
 /// the call: the record goes to the stack as the argument, and the result, by
-/// way of the stack, to its place. gcc does the same in examples/host.c;
-/// bench/receiver/turns.c spares the second.
+/// way of the stack, to its place. bench/receiver/turns.c spares the second.
 #[inline(always)]
 pub fn message(receiver: &Receiver, octets: &[u8], rows: &mut [i32], levels: &mut [u8]) -> Outcome {
     unsafe {
@@ -213,6 +235,48 @@ pub fn message(receiver: &Receiver, octets: &[u8], rows: &mut [i32], levels: &mu
 }
 
 pub fn readings(receiver: &Receiver) -> [u64; 3] {
-    let readings = unsafe { mewkoast_readings(*receiver) };
-    [readings.lit_time, readings.points, readings.lit_points]
+    unsafe { mewkoast_readings(*receiver) }.three()
+}
+
+pub fn begin_on(channels: &mut [u8], meters: &mut [u64], readings: [u64; 3]) -> Reply {
+    let [lit_time, points, lit_points] = readings;
+    unsafe {
+        mewkoast_begin_on(
+            channels.as_mut_ptr(),
+            channels.len(),
+            meters.as_mut_ptr(),
+            meters.len(),
+            lit_time,
+            points,
+            lit_points,
+        )
+    }
+}
+
+#[inline(always)]
+pub fn offer_on(
+    channels: &mut [u8],
+    meters: &mut [u64],
+    octets: &[u8],
+    rows: &mut [i32],
+    levels: &mut [u8],
+) -> Reply {
+    unsafe {
+        mewkoast_offer_on(
+            channels.as_mut_ptr(),
+            channels.len(),
+            meters.as_mut_ptr(),
+            meters.len(),
+            octets.as_ptr(),
+            octets.len(),
+            rows.as_mut_ptr(),
+            rows.len(),
+            levels.as_mut_ptr(),
+            levels.len(),
+        )
+    }
+}
+
+pub fn readings_on(meters: &[u64]) -> [u64; 3] {
+    unsafe { mewkoast_readings_on(meters.as_ptr(), meters.len()) }.three()
 }

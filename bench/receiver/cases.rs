@@ -8,6 +8,8 @@ const LEVELS: u8 = 0x18;
 
 pub struct Case {
     pub name: String,
+    /// The part of the picture that it stands in, with times of one size.
+    pub panel: &'static str,
     /// Offered once, in order, before the measurement.
     pub opening: Vec<Vec<u8>>,
     pub message: Vec<u8>,
@@ -49,26 +51,31 @@ const LAYOUTS: [Layout; 3] = [
 /// Every case, in the order of the table.
 pub fn all() -> Vec<Case> {
     let mut cases = Vec::new();
-    for points in [20, 100] {
-        cases.extend(LAYOUTS.map(|layout| samples(WAVE, points, layout)));
-    }
-    for points in [2, 480] {
-        cases.extend(LAYOUTS.map(|layout| samples(FRAME, points, layout)));
-    }
-    cases.push(levels("levels, 512 from base 1", &[]));
-    cases.push(levels("levels, 512 in 32 ranges", &ranges()));
-    cases.push(keep_alive());
-    cases.push(refused());
-    for layout in [LAYOUTS[0], LAYOUTS[2]] {
-        cases.push(route(layout));
-    }
-    cases.push(route_levels());
-    for open in [1, 8, 32, 64] {
-        cases.push(among(open, "frames", &opened_frame));
-    }
-    for open in [8, 32, 64] {
-        cases.push(among(open, "dimmers", &opened_dimmer));
-    }
+    let mut add = |panel, list: Vec<Case>| {
+        cases.extend(list.into_iter().map(|case| Case { panel, ..case }));
+    };
+    let layouts = |kind, points| LAYOUTS.map(|layout| samples(kind, points, layout)).into();
+    add("waves of 20 points", layouts(WAVE, 20));
+    add("waves of 100 points", layouts(WAVE, 100));
+    add("frames of 2 points", layouts(FRAME, 2));
+    add("frames of 480 points", layouts(FRAME, 480));
+    let dimmers = [
+        levels("levels, 512 from base 1", &[]),
+        levels("levels, 512 in 32 ranges", &ranges()),
+    ];
+    add("dimmer levels", dimmers.into());
+    add("keep-alive and refusal", vec![keep_alive(), refused()]);
+    let routings = [route(LAYOUTS[0]), route(LAYOUTS[2]), route_levels()];
+    add("routings", routings.into());
+    let wave = || samples(WAVE, 100, LAYOUTS[0]);
+    add(
+        "wave of 100 points, sparse, among open channels",
+        among("wave", &wave),
+    );
+    add(
+        "keep-alive among open channels",
+        among("keep-alive", &keep_alive),
+    );
     cases
 }
 
@@ -79,6 +86,7 @@ fn samples(kind: u8, points: usize, layout: Layout) -> Case {
     data.extend(octets(points * width));
     Case {
         name: format!("{what}, {points} points, {name}"),
+        panel: "",
         // The modes of waves and frames have the numbers of their types.
         opening: vec![routing(0, 1, kind, &words(kind, tags))],
         message: plain(0, kind, &data),
@@ -91,6 +99,7 @@ fn levels(name: &str, tags: &[u8]) -> Case {
     data.extend(octets(512));
     Case {
         name: name.to_string(),
+        panel: "",
         opening: vec![routing(0, 1, 4, tags)],
         message: plain(0, LEVELS, &data),
         number: 0,
@@ -121,33 +130,41 @@ fn refused() -> Case {
 
 fn route(layout: Layout) -> Case {
     let (name, tags, _) = layout;
-    Case {
-        name: format!("routing, {name}"),
-        opening: Vec::new(),
-        message: routing(0, 1, WAVE, &words(WAVE, tags)),
-        number: 0,
-    }
+    routed(name, routing(0, 1, WAVE, &words(WAVE, tags)))
 }
 
 fn route_levels() -> Case {
+    routed("32 ranges", routing(0, 1, 4, &ranges()))
+}
+
+fn routed(name: &str, message: Vec<u8>) -> Case {
     Case {
-        name: "routing, 32 ranges".to_string(),
+        name: format!("routing, {name}"),
+        panel: "",
         opening: Vec::new(),
-        message: routing(0, 1, 4, &ranges()),
+        message,
         number: 0,
     }
 }
 
-/// The wave of 100 points in the sparse layout with so many open channels;
-/// another one cannot have mode 1 (check 15).
-fn among(open: u8, others: &str, opened: &dyn Fn(u8) -> Vec<u8>) -> Case {
-    let mut case = samples(WAVE, 100, LAYOUTS[0]);
-    case.opening.extend((1..open).map(opened));
-    case.name = match open {
-        1 => "wave, 1 open".to_string(),
-        _ => format!("wave, {open} open, {others}"),
+/// A message on a channel of mode 1 while so many channels are open; another
+/// one cannot have mode 1 (check 15).
+fn among(what: &str, case: &dyn Fn() -> Case) -> Vec<Case> {
+    let open = |open: u8, name: String, opened: &dyn Fn(u8) -> Vec<u8>| {
+        let mut case = case();
+        case.opening.extend((1..open).map(opened));
+        Case { name, ..case }
     };
-    case
+    let mut cases = vec![open(1, format!("{what}, 1 open"), &opened_frame)];
+    for number in [8, 32, 64] {
+        let name = format!("{what}, {number} open, frames");
+        cases.push(open(number, name, &opened_frame));
+    }
+    for number in [8, 32, 64] {
+        let name = format!("{what}, {number} open, dimmers");
+        cases.push(open(number, name, &opened_dimmer));
+    }
+    cases
 }
 
 fn opened_frame(channel: u8) -> Vec<u8> {

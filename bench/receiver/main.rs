@@ -1,17 +1,21 @@
-//! Measures the proved receiver, through its C calls, beside the receiver of
-//! tests/decoder. The exit status is not 0 only if the two differ or the usage
-//! is wrong; no time is judged.
+//! Measures the proved receiver, by value and in place, through its C calls,
+//! beside the receiver of tests/decoder and the one of card.h. The exit status
+//! is not 0 only if they differ, a file cannot be written or the usage is
+//! wrong; no time is judged.
 //!
-//! usage: receiver_bench
+//! usage: receiver_bench [FILE]
 //!        receiver_bench --names
-//!        receiver_bench --repeat proved|rust CASE TIMES
+//!        receiver_bench --repeat WAY CASE TIMES
 //!
-//! The first form prints the tables, the second one the names of the cases in
+//! The first form prints the tables, and writes the times to FILE in the form
+//! that bench/picture.rs reads. The second one prints the names of the cases in
 //! order. The third one offers the message of the case with this place, from
-//! 0, so many times inside `repeated_messages`, for a counter of instructions.
+//! 0, so many times inside `repeated_messages`, for a counter of instructions;
+//! WAY is the place of the way from 0.
 
 mod cases;
 mod hosts;
+mod report;
 mod stack;
 mod time;
 
@@ -19,114 +23,68 @@ mod time;
 mod calls;
 
 use cases::Case;
-use hosts::{Host, Proved, Second};
+use hosts::{Host, WAYS};
 use std::process::ExitCode;
-use time::Best;
 
 fn main() -> ExitCode {
     let arguments: Vec<String> = std::env::args().skip(1).collect();
     let words: Vec<&str> = arguments.iter().map(String::as_str).collect();
     let cases = cases::all();
     let done = match words[..] {
-        [] => Some(tables(&cases)),
+        [] => Some(tables(&cases, None)),
         ["--names"] => {
             cases.iter().for_each(|case| println!("{}", case.name));
             Some(true)
         }
         ["--repeat", way, place, times] => repeat(&cases, way, place, times),
+        [file] if !file.starts_with('-') => Some(tables(&cases, Some(file))),
         _ => None,
     };
     match done {
         Some(true) => ExitCode::SUCCESS,
         Some(false) => ExitCode::FAILURE,
         None => {
-            eprintln!("usage: receiver_bench [--names | --repeat proved|rust CASE TIMES]");
+            eprintln!("usage: receiver_bench [FILE | --names | --repeat WAY CASE TIMES]");
             ExitCode::from(2)
         }
     }
 }
 
-/// Prints every table; false if the two receivers differ.
-fn tables(cases: &[Case]) -> bool {
+/// Prints every table; false if the receivers differ.
+fn tables(cases: &[Case], file: Option<&str>) -> bool {
+    report::head();
+    let mut bests = Vec::new();
     for case in cases {
         if !hosts::agree(case) {
             println!("{}: the outputs differ", case.name);
             return false;
         }
+        bests.push(time::best(case));
+        report::line(case, &bests[bests.len() - 1]);
     }
-    println!("ns a message, best of {} alternating runs", time::RUNS);
-    println!(
-        "{:<26} {:>6} {:>8} {:>8}  proved/Rust",
-        "message", "octets", "proved", "Rust"
-    );
-    let bests: Vec<Best> = cases.iter().map(line).collect();
-    share(cases, &bests);
     println!();
-    stacks(cases);
-    true
-}
-
-fn line(case: &Case) -> Best {
-    let best = time::best(case);
-    println!(
-        "{:<26} {:>6} {:>8.0} {:>8.0} {:>12.2}",
-        case.name,
-        case.message.len(),
-        best.proved,
-        best.second,
-        best.ratio()
-    );
-    best
-}
-
-/// What the cost of every message is of a wave of 100 points.
-fn share(cases: &[Case], bests: &[Best]) {
-    let place = |name: &str| cases.iter().position(|case| case.name == name).unwrap();
-    let fixed = bests[place("keep-alive")];
+    report::shares(cases, &bests);
+    report::growth(cases, &bests);
+    report::copies(cases);
     println!();
-    for layout in ["sparse", "usual", "full"] {
-        let name = format!("wave, 100 points, {layout}");
-        let wave = bests[place(&name)];
-        println!(
-            "keep-alive as a share of {name}: proved {:.0} %, Rust {:.0} %",
-            100.0 * fixed.proved / wave.proved,
-            100.0 * fixed.second / wave.second
-        );
+    report::stacks(cases);
+    let written = file.map_or(Ok(()), |file| {
+        std::fs::write(file, report::tabs(cases, &bests))
+    });
+    if let Err(error) = &written {
+        eprintln!("{error}");
     }
-    println!(
-        "keep-alive by a host that keeps the outcome in one place: {:.0} ns",
-        time::best_in_one_place(&cases[place("keep-alive")])
-    );
-    println!("one copy of a record: {:.0} ns", time::best_copy());
-}
-
-/// The deepest stack of any case, and the sizes of what is handed over.
-fn stacks(cases: &[Case]) {
-    let depths: Option<Vec<[usize; 2]>> = cases.iter().map(stack::depths).collect();
-    let Some(depths) = depths else {
-        println!("stack: not measured, no thread started");
-        return;
-    };
-    let most = |way: usize| depths.iter().map(|depth| depth[way]).max().unwrap_or(0);
-    let least = |way: usize| depths.iter().map(|depth| depth[way]).min().unwrap_or(0);
-    println!("octets of stack below the frame of the host, least and most of all cases");
-    println!("proved {:>6} {:>6}", least(0), most(0));
-    println!("Rust   {:>6} {:>6}", least(1), most(1));
-    println!(
-        "sizes: receiver {}, outcome {}",
-        size_of::<calls::Receiver>(),
-        size_of::<calls::Outcome>()
-    );
+    written.is_ok()
 }
 
 fn repeat(cases: &[Case], way: &str, place: &str, times: &str) -> Option<bool> {
+    let way = way.parse().ok().filter(|way| *way < WAYS.len())?;
     let case = cases.get(place.parse::<usize>().ok()?)?;
-    let times = times.parse().ok()?;
-    match way {
-        "proved" => repeated_messages(&mut Proved::open(case), &case.message, times),
-        "rust" => repeated_messages(&mut Second::open(case), &case.message, times),
-        _ => return None,
-    }
+    repeated_messages(
+        &mut *hosts::open(way, case),
+        &case.message,
+        times.parse().ok()?,
+    );
     Some(true)
 }
 

@@ -2,7 +2,7 @@
 //! the lowest octet that changed tells how deep the stack was.
 
 use crate::cases::Case;
-use crate::hosts::{Host, Proved, Second};
+use crate::hosts::{open, Host};
 use std::ffi::c_void;
 
 /// Above what any call here takes; a multiple of the page.
@@ -36,14 +36,12 @@ struct Work<'a> {
 #[derive(Clone, Copy)]
 struct Page([u8; 4096]);
 
-/// The octets that the proved and the second receiver take for the message.
-pub fn depths(case: &Case) -> Option<[usize; 2]> {
-    let proved = depth(&mut Proved::open(case), &case.message)?;
-    let second = depth(&mut Second::open(case), &case.message)?;
-    Some([proved, second])
+/// The octets that a way takes for the message; none if no thread started.
+pub fn of(way: usize, case: &Case) -> Option<usize> {
+    depth(&mut *open(way, case), &case.message)
 }
 
-/// The octets below the frame that makes the call; none if no thread started.
+/// The octets below the frame that makes the call.
 fn depth(host: &mut dyn Host, octets: &[u8]) -> Option<usize> {
     let mut pages = vec![Page([PATTERN; 4096]); ROOM / 4096];
     let lowest = pages.as_mut_ptr();

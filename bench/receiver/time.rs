@@ -1,8 +1,8 @@
-//! Nanoseconds a message, of both receivers in turn.
+//! Nanoseconds a message, of all receivers in turn.
 
 use crate::calls::Receiver;
 use crate::cases::Case;
-use crate::hosts::{Host, Proved, Second};
+use crate::hosts::{open, Host, BY_VALUE, WAYS};
 use std::hint::black_box;
 use std::time::{Duration, Instant};
 
@@ -11,33 +11,18 @@ const RUN: Duration = Duration::from_micros(60);
 pub const RUNS: usize = 400;
 const COPIES: usize = 300;
 
-/// The best times in nanoseconds a message.
-#[derive(Clone, Copy)]
-pub struct Best {
-    pub proved: f64,
-    pub second: f64,
-}
-
-impl Best {
-    pub fn ratio(&self) -> f64 {
-        self.proved / self.second
-    }
-}
+/// The best times in nanoseconds a message, in the order of the ways.
+pub type Best = [f64; WAYS.len()];
 
 pub fn best(case: &Case) -> Best {
-    let (mut proved, mut second) = (Proved::open(case), Second::open(case));
-    let times = [
-        fitting(&mut proved, &case.message),
-        fitting(&mut second, &case.message),
-    ];
-    let mut best = Best {
-        proved: f64::INFINITY,
-        second: f64::INFINITY,
-    };
-    // The two alternate, so that a slow moment does not meet one alone.
+    let mut hosts = [0, 1, 2, 3].map(|way| open(way, case));
+    let times = [0, 1, 2, 3].map(|way| fitting(&mut *hosts[way], &case.message));
+    let mut best = [f64::INFINITY; WAYS.len()];
+    // They alternate, so that a slow moment does not meet one alone.
     for _ in 0..RUNS {
-        best.proved = best.proved.min(run(&mut proved, &case.message, times[0]));
-        best.second = best.second.min(run(&mut second, &case.message, times[1]));
+        for (way, host) in hosts.iter_mut().enumerate() {
+            best[way] = best[way].min(run(&mut **host, &case.message, times[way]));
+        }
     }
     best
 }
@@ -54,32 +39,28 @@ fn run(host: &mut dyn Host, octets: &[u8], times: usize) -> f64 {
     start.elapsed().as_nanos() as f64 / times as f64
 }
 
-/// The best time of the proved receiver where the host keeps one outcome.
-pub fn best_in_one_place(case: &Case) -> f64 {
-    let mut host = Proved::open(case);
-    let times = fitting(&mut host, &case.message);
-    let mut best = f64::INFINITY;
-    for _ in 0..RUNS {
-        let start = Instant::now();
-        for _ in 0..times {
-            host.offer(black_box(&case.message));
-        }
-        best = best.min(start.elapsed().as_nanos() as f64 / times as f64);
-    }
-    best
+/// The best time by value where the host keeps one outcome.
+pub fn best_in_one_variable(case: &Case) -> f64 {
+    let mut host = open(BY_VALUE, case);
+    let times = fitting(&mut *host, &case.message);
+    best_of(times, || host.offer(black_box(&case.message)))
 }
 
-/// The best time of one copy of a record, of which a call makes two.
+/// The best time of one copy of a record.
 pub fn best_copy() -> f64 {
     let mut records = vec![[7u8; size_of::<Receiver>()]; 2];
+    best_of(COPIES, || {
+        let (from, to) = black_box(&mut records).split_at_mut(1);
+        to[0].copy_from_slice(&from[0]);
+    })
+}
+
+fn best_of(times: usize, mut work: impl FnMut()) -> f64 {
     let mut best = f64::INFINITY;
     for _ in 0..RUNS {
         let start = Instant::now();
-        for _ in 0..COPIES {
-            let (from, to) = black_box(&mut records).split_at_mut(1);
-            to[0].copy_from_slice(&from[0]);
-        }
-        best = best.min(start.elapsed().as_nanos() as f64 / COPIES as f64);
+        (0..times).for_each(|_| work());
+        best = best.min(start.elapsed().as_nanos() as f64 / times as f64);
     }
     best
 }

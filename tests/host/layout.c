@@ -35,13 +35,8 @@ static void tag_layer(void)
 
 static void receiver(void)
 {
-    FIELD(mewkoast_receiver, states);
-    FIELD(mewkoast_receiver, matches);
-    FIELD(mewkoast_receiver, layouts);
-    FIELD(mewkoast_receiver, dimmers);
-    FIELD(mewkoast_receiver, lit_time);
-    FIELD(mewkoast_receiver, points);
-    FIELD(mewkoast_receiver, lit_points);
+    FIELD(mewkoast_receiver, meters);
+    FIELD(mewkoast_receiver, channels);
     WHOLE(mewkoast_receiver);
     FIELD(mewkoast_reply, number);
     FIELD(mewkoast_reply, channel);

@@ -30,7 +30,7 @@ fn main() {
     print_fields!("checked_dictionary", CheckedDictionary, number layout);
     print_fields!("dimmer_mapping", DimmerMapping, bases counts base count);
     print_fields!("checked_mapping", CheckedMapping, number dimmer);
-    print_fields!("receiver", Receiver, states matches layouts dimmers lit_time points lit_points);
+    print_fields!("receiver", Receiver, meters channels);
     print_fields!("reply", Reply, number channel chunk_type timestamp space points lit_points levels);
     print_fields!("outcome", Outcome, receiver reply);
     print_fields!("meters", Readings, lit_time points lit_points);

@@ -1,53 +1,17 @@
-//! Records that a host made. Those that break the consistency rule: document
-//! 01, check 1, "The record given breaks the receiver's written consistency
-//! rule [...]; it is handed back as it came." And those that hold anything where
-//! nothing is read: they are answered like the record without it.
+//! Records that break the consistency rule: document 01, check 1, "The record
+//! given breaks the receiver's written consistency rule [...]; it is handed
+//! back as it came." include/mewkoast.h has the rule. And records at its edges,
+//! which keep it.
 
 use crate::calls::{self, Receiver};
+use crate::lent::{Record, Slices};
+use crate::messages::{FRAME, ROUTINGS};
+use crate::record::{channel, Channel, CHANNELS, KNOWN};
 use crate::tally::Tally;
 use decoder::receiver::{Reply, LIMIT};
 
-/// The states of an open channel: its mode + 1. 0 is a closed one.
-const GRAPHIC: [u8; 2] = [2, 3];
-const DIMMER: [u8; 2] = [5, 7];
-
-/// Bases that are neither 1 to 512 nor FFFF.
-const BASES: [u16; 4] = [0, 513, 1024, 0xFFFE];
-
-/// Document 01, "Bench table", a.
-const FRAME: [u8; 46] = [
-    0x00, 0x2E, 0xC5, 0x02, 0, 0, 0, 0, 0x04, 0x11, 0x01, 0x02, 0x42, 0x00, 0x40, 0x10, 0x42, 0x10,
-    0x40, 0x10, 0x52, 0x7E, 0x52, 0x14, 0x51, 0xCC, 0x00, 0x00, 0x10, 0x00, 0x00, 0x64, 0x80, 0, 0,
-    0x01, 0, 0, 0, 0x7F, 0xFF, 0xFF, 0xFF, 0x00, 0x80, 0x00,
-];
-
-/// Void chunks that route channel 1 to mode 1, channel 2 to mode 2, channel 3
-/// to mode 4 with two tags 43, channel 4 to mode 6 with a tag 42 and channel 6
-/// to mode 0.
-const ROUTINGS: [[u8; 20]; 5] = [
-    routing([0xC1, 1], [0x42, 0x00, 0x42, 0x10, 0x52, 0x7E, 0x00, 0x00]),
-    routing([0xC2, 2], [0x42, 0x00, 0x42, 0x10, 0x52, 0x7E, 0x00, 0x00]),
-    routing([0xC3, 4], [0x43, 0x00, 0x01, 0x02, 0x43, 0x00, 0x03, 0x01]),
-    routing([0xC4, 6], [0x42, 0x00, 0x05, 0x00, 0x00, 0x00, 0x00, 0x00]),
-    routing([0xC6, 0], [0; 8]),
-];
-
-/// A Void chunk without data, on channel 0.
-const KEEP_ALIVE: [u8; 8] = [0, 8, 0x80, 0, 0, 0, 0, 0];
-
-/// Each of the first with each of the second.
-fn pairs(states: [u8; 2], numbers: impl AsRef<[u8]>) -> Vec<(u8, u8)> {
-    let each = |state| numbers.as_ref().iter().map(move |number| (state, *number));
-    states.into_iter().flat_map(each).collect()
-}
-
-const fn routing(channel_mode: [u8; 2], words: [u8; 8]) -> [u8; 20] {
-    let [channel, mode] = channel_mode;
-    let [a, b, c, d, e, f, g, h] = words;
-    [
-        0, 20, channel, 0, 0, 0, 0, 0, 2, 0x01, 0, mode, a, b, c, d, e, f, g, h,
-    ]
-}
+/// A message that check 2 refuses, so that none but check 1 comes before.
+const CUT: &[u8] = FRAME.first_chunk::<3>().unwrap();
 
 /// A record with an open channel of each mode.
 pub fn opened(tally: &mut Tally) -> Receiver {
@@ -61,186 +25,122 @@ pub fn opened(tally: &mut Tally) -> Receiver {
     record
 }
 
-/// Offers messages to every broken copy of a record, and to copies that are
-/// changed where nothing is read.
+/// Offers messages to every broken copy of a record, and to copies that just
+/// keep the rule.
 pub fn offer(record: &Receiver, tally: &mut Tally) {
     let mut copies = Copies {
         record,
         tally,
+        number: 1,
         way: "",
     };
-    copies.meters();
-    let open = (0..64)
-        .filter(|channel| record.states[*channel] != 0)
-        .take(8);
-    let closed = (0..64)
-        .filter(|channel| record.states[*channel] == 0)
-        .take(1);
-    for channel in open.chain(closed) {
-        copies.channel(channel);
-        copies.unread(channel);
-        if DIMMER.contains(&record.states[channel]) {
-            copies.dimmer(channel);
-        }
+    copies.meters(LIMIT + 1);
+    copies.meters(u64::MAX);
+    for number in 0..CHANNELS {
+        copies.broken(number);
+    }
+    // 2 is the first check after the record's own.
+    copies.number = 2;
+    copies.meters(LIMIT);
+    for number in 0..CHANNELS {
+        copies.sound(number);
     }
 }
 
 struct Copies<'a> {
     record: &'a Receiver,
     tally: &'a mut Tally,
+    /// What a message of three octets gets.
+    number: u32,
     way: &'static str,
 }
 
 impl Copies<'_> {
-    /// A meter above the limit.
-    fn meters(&mut self) {
-        self.way = "a meter above the limit";
-        for reading in [LIMIT + 1, u64::MAX] {
-            self.with(|copy| copy.lit_time = reading);
-            self.with(|copy| copy.points = reading);
-            self.with(|copy| copy.lit_points = reading);
+    fn meters(&mut self, reading: u64) {
+        self.way = "a meter";
+        for meter in 0..3 {
+            let mut copy = *self.record;
+            copy.meters[meter] = reading;
+            self.answered(&copy);
         }
     }
 
-    /// What no channel may have, and what none may have in its mode.
-    fn channel(&mut self, channel: usize) {
+    /// What no channel may have, open or closed.
+    fn broken(&mut self, number: usize) {
         self.way = "an unknown state";
-        for state in [4, 6, 8, 9, 255] {
-            self.with(|copy| copy.states[channel] = state);
+        for state in [4, 6, 8, 9, 128, 255] {
+            self.with(number, |channel| channel.set_state(state));
         }
-        self.way = "a width of 0 or above 32 in an open graphic channel";
-        for (state, width) in pairs(GRAPHIC, [0, 33, 255]) {
-            self.with(|copy| {
-                copy.states[channel] = state;
-                copy.layouts[channel].width = width;
-            });
+        for state in KNOWN {
+            self.way = "a size above 32";
+            self.sizes(number, state, [(33, 3), (128, 0), (255, 8)]);
+            self.way = "colours above 8";
+            self.sizes(number, state, [(5, 9), (32, 128), (0, 255)]);
         }
-        self.way = "colours above 8 in an open graphic channel";
-        for (state, colours) in pairs(GRAPHIC, [9, 255]) {
-            self.with(|copy| {
-                copy.states[channel] = state;
-                copy.layouts[channel].width = 5;
-                copy.layouts[channel].colours = colours;
-            });
+    }
+
+    /// The most and the least that the rule allows.
+    fn sound(&mut self, number: usize) {
+        self.way = "a size of 0 or 32, 0 or 8 colours";
+        for state in KNOWN {
+            self.sizes(number, state, [(0, 0), (0, 8), (32, 8)]);
         }
-        self.way = "a count above 32 in an open dimmer channel";
-        for (state, count) in pairs(DIMMER, [33, 255]) {
-            self.with(|copy| {
-                copy.states[channel] = state;
-                copy.dimmers[channel].count = count;
+    }
+
+    /// A channel in this state with each size and count of colours.
+    fn sizes(&mut self, number: usize, state: u8, sizes: [(u8, u8); 3]) {
+        for (size, colours) in sizes {
+            self.with(number, |channel| {
+                channel.set_state(state);
+                channel.set_size(size);
+                channel.set_colours(colours);
             });
         }
     }
 
-    /// A layout counts in modes 1 and 2 alone, a mapping in 4 and 6, and match
-    /// bits in none of a closed channel and mode 0.
-    fn unread(&mut self, channel: usize) {
-        self.way = "anything where nothing is read";
-        let state = self.record.states[channel];
+    fn with(&mut self, number: usize, change: impl FnOnce(&mut Channel)) {
         let mut copy = *self.record;
-        if !GRAPHIC.contains(&state) && !DIMMER.contains(&state) {
-            copy.matches[channel] = 255;
-        }
-        if !GRAPHIC.contains(&state) {
-            let layout = &mut copy.layouts[channel];
-            layout.roles = [255; 32];
-            layout.waves = [1023; 8];
-            (layout.space, layout.width, layout.colours) = (0x1155, 255, 255);
-        }
-        if !DIMMER.contains(&state) {
-            let dimmer = &mut copy.dimmers[channel];
-            (dimmer.bases, dimmer.counts) = ([700; 32], [0; 32]);
-            (dimmer.base, dimmer.count) = (700, 255);
-        }
-        let [mut routing, mut keep_alive] = [FRAME.to_vec(), KEEP_ALIVE.to_vec()];
-        routing[2] = 0xC0 | channel as u8;
-        keep_alive[2] |= channel as u8;
-        self.as_before(copy, &[&keep_alive, &FRAME[..3]]);
-        self.as_before(copy, &[&routing, &keep_alive]);
+        change(&mut channel(&mut copy, number));
+        self.answered(&copy);
     }
 
-    /// The replies, slices and readings are those of the record as it was.
-    fn as_before(&mut self, mut copy: Receiver, messages: &[&[u8]]) {
-        let way = self.way;
-        let mut record = *self.record;
-        for octets in messages {
-            let [mut rows, mut rows_before] = [[-5; 48]; 2];
-            let [mut levels, mut levels_before] = [[5; 1024]; 2];
-            let next = calls::message(&copy, octets, &mut rows, &mut levels);
-            let before = calls::message(&record, octets, &mut rows_before, &mut levels_before);
-            let (reply, expected) = (next.reply.own(), before.reply.own());
-            self.tally.same(reply == expected, || {
-                format!("{way}: {reply:?}, not {expected:?}")
-            });
-            let slices = rows == rows_before && levels == levels_before;
-            self.tally.same(slices, || format!("{way}: the slices"));
-            let readings = calls::readings(&next.receiver);
-            self.tally
-                .same(readings == calls::readings(&before.receiver), || {
-                    format!("{way}: readings {readings:?}")
-                });
-            (copy, record) = (next.receiver, before.receiver);
+    fn answered(&mut self, copy: &Receiver) {
+        self.refused(copy, CUT);
+        if self.number == 1 {
+            self.refused(copy, &FRAME);
+            self.tally.number(1);
         }
     }
 
-    /// A base or count out of range, where an open channel uses it.
-    fn dimmer(&mut self, channel: usize) {
-        let count = usize::from(self.record.dimmers[channel].count);
-        if count == 0 {
-            // A stored base of 0 says that the tags had no 42, so it is in range.
-            self.way = "a base out of range without subsets";
-            for base in BASES.into_iter().filter(|base| *base != 0) {
-                self.with(|copy| copy.dimmers[channel].base = base);
-            }
-            return;
-        }
-        for place in [0, count - 1] {
-            self.way = "a base out of range";
-            for base in BASES {
-                self.with(|copy| copy.dimmers[channel].bases[place] = base);
-            }
-            self.way = "a count out of range";
-            self.with(|copy| copy.dimmers[channel].counts[place] = 0);
-            self.with(|copy| {
-                copy.dimmers[channel].bases[place] = 512;
-                copy.dimmers[channel].counts[place] = 2;
-            });
-        }
-    }
-
-    fn with(&mut self, change: impl FnOnce(&mut Receiver)) {
-        let mut copy = *self.record;
-        change(&mut copy);
-        self.refused(&copy, &FRAME);
-        self.refused(&copy, &FRAME[..3]);
-    }
-
-    /// The reply is 1 and 0, the record is the one given, the readings are
-    /// those of the record "as they stand", and the slices are unchanged.
+    /// By value and in place: the reply is the number and 0, the record is the
+    /// one given, the readings are those of the record "as they stand", and
+    /// the slices are unchanged.
     fn refused(&mut self, copy: &Receiver, octets: &[u8]) {
-        let mut rows = [-5; 48];
-        let mut levels = [5; 1024];
-        let back = calls::message(copy, octets, &mut rows, &mut levels);
-        let reply = back.reply.own();
+        let [before, mut by_value, mut in_place] = [(); 3].map(|()| Slices::small());
+        let back = calls::message(copy, octets, by_value.rows.slice(), by_value.levels.slice());
+        let mut lent = Record::of(copy);
+        let replies = [back.reply.own(), lent.offer(octets, &mut in_place)];
         let expected = Reply {
-            number: 1,
+            number: self.number,
             ..Reply::default()
         };
         let way = self.way;
-        self.tally.broken += 1;
-        self.tally.number(reply.number);
+        self.tally.broken += usize::from(self.number == 1);
+        for reply in replies {
+            self.tally
+                .same(reply == expected, || format!("{way}: {reply:?}"));
+        }
         self.tally
-            .same(reply == expected, || format!("{way}: {reply:?}"));
+            .same(back.receiver == *copy && lent.holds(copy), || {
+                format!("{way}: another record")
+            });
         self.tally
-            .same(back.receiver == *copy, || format!("{way}: another record"));
-        self.tally
-            .same(rows == [-5; 48] && levels == [5; 1024], || {
+            .same(by_value == before && in_place == before, || {
                 format!("{way}: the slices")
             });
-        let readings = calls::readings(copy);
-        self.tally.same(
-            readings == [copy.lit_time, copy.points, copy.lit_points],
-            || format!("{way}: readings {readings:?}"),
-        );
+        for readings in [calls::readings(copy), lent.readings()] {
+            self.tally
+                .same(readings == copy.meters, || format!("{way}: {readings:?}"));
+        }
     }
 }

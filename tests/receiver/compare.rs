@@ -1,95 +1,124 @@
-//! One stream through the proved receiver, the second one and the look-back
-//! rule.
+//! One stream through the proved receiver by value and in place, the second
+//! receiver and the look-back rule.
 
 use crate::calls;
+use crate::lent::{Record, Slices};
 use crate::tally::Tally;
 use decoder::lookback::{sums, verdicts, Offered};
-use decoder::receiver::Receiver;
+use decoder::receiver::{Receiver, Reply};
 use generate::stream::{Offer, Stream};
 
-/// Numbers and octets on either side of a slice lent, which no call may touch.
-const MARGIN: usize = 24;
-
-/// A slice to lend, with a margin on either side, all of it a pattern.
-#[derive(Clone, PartialEq)]
-struct Lent<T> {
-    all: Vec<T>,
-    length: usize,
+/// What a message gives, whichever way it is offered.
+struct Given {
+    reply: Reply,
+    readings: [u64; 3],
+    slices: Slices,
 }
 
-impl<T> Lent<T> {
-    fn new(length: usize, pattern: impl Fn(u32) -> T) -> Lent<T> {
-        let whole = (length + 2 * MARGIN) as u32;
-        Lent {
-            all: (0..whole).map(pattern).collect(),
-            length,
-        }
-    }
-
-    fn slice(&mut self) -> &mut [T] {
-        &mut self.all[MARGIN..MARGIN + self.length]
+impl Given {
+    fn same(&self, expected: &Given, name: &str, tally: &mut Tally) -> bool {
+        let (reply, wanted) = (self.reply, expected.reply);
+        let mut same = tally.same(reply == wanted, || {
+            format!("{name}: {reply:?}, expected {wanted:?}")
+        });
+        let (readings, wanted) = (self.readings, expected.readings);
+        same &= tally.same(readings == wanted, || {
+            format!("{name}: readings {readings:?}, expected {wanted:?}")
+        });
+        same &= tally.same(self.slices.rows == expected.slices.rows, || {
+            format!("{name}: the rows")
+        });
+        same & tally.same(self.slices.levels == expected.slices.levels, || {
+            format!("{name}: the levels")
+        })
     }
 }
 
-/// Both receivers, and what the proved one gave so far.
-pub struct Both {
-    proved: calls::Receiver,
+/// The receivers, and what the proved one gave so far.
+pub struct All {
+    by_value: calls::Receiver,
+    in_place: Record,
     second: Receiver,
     given: Vec<(u32, [u64; 3])>,
 }
 
-impl Both {
-    fn start(readings: [u64; 3], tally: &mut Tally) -> Both {
+impl All {
+    fn start(readings: [u64; 3], tally: &mut Tally) -> All {
         let [lit_time, points, lit_points] = readings;
         let (second, expected) = Receiver::start(lit_time, points, lit_points);
         let started = calls::start(readings);
-        let (proved, reply) = (started.receiver, started.reply.own());
-        tally.same(reply == expected, || {
-            format!("start {readings:?}: {reply:?}")
+        let by_value = started.receiver;
+        // What the record held before must not matter.
+        let mut in_place = Record::new(by_value.channels.len(), by_value.meters.len());
+        for reply in [started.reply.own(), in_place.begin(readings)] {
+            tally.same(reply == expected, || {
+                format!("start {readings:?}: {reply:?}")
+            });
+        }
+        for after in [calls::readings(&by_value), in_place.readings()] {
+            tally.same(after == second.readings(), || {
+                format!("start {readings:?}: readings {after:?}")
+            });
+        }
+        tally.same(in_place.holds(&by_value), || {
+            format!("start {readings:?}: the records")
         });
-        let after = calls::readings(&proved);
-        tally.same(after == second.readings(), || {
-            format!("start {readings:?}: readings {after:?}")
-        });
-        Both {
-            proved,
+        All {
+            by_value,
+            in_place,
             second,
             given: Vec::new(),
         }
     }
 
-    /// Offers one message to both; true if they did the same.
+    /// Offers one message to all; true if they did the same.
     fn offer(&mut self, offer: &Offer, name: &str, tally: &mut Tally) -> bool {
         let salt = 0x9E37_79B1u32.wrapping_mul(tally.messages as u32 | 1);
-        let pattern = |place: u32| place.wrapping_mul(0x85EB_CA6B) ^ salt;
-        let mut rows = Lent::new(offer.lent.rows, |place| pattern(place) as i32);
-        let mut levels = Lent::new(offer.lent.levels, |place| (pattern(place) >> 9) as u8);
-        let (mut own_rows, mut own_levels) = (rows.clone(), levels.clone());
-        let octets = &offer.octets;
-        let expected = self
-            .second
-            .message(octets, own_rows.slice(), own_levels.slice());
-        let next = calls::message(&self.proved, octets, rows.slice(), levels.slice());
-        let (after, reply) = (next.receiver, next.reply.own());
-        let readings = calls::readings(&after);
+        let mut slices = Slices::new(offer.lent, salt);
+        let (before, octets) = (self.by_value, &offer.octets);
+        let in_place = self.offer_in_place(octets, slices.clone());
+        let by_value = self.offer_by_value(octets, slices.clone());
+        let expected = Given {
+            reply: (self.second).message(octets, slices.rows.slice(), slices.levels.slice()),
+            readings: self.second.readings(),
+            slices,
+        };
+        let number = by_value.reply.number;
         tally.messages += 1;
-        tally.number(reply.number);
-        self.given.push((reply.number, readings));
-        let mut same = tally.same(reply == expected, || {
-            format!("{name}: {reply:?}, expected {expected:?}")
-        });
-        same &= tally.same(rows == own_rows, || format!("{name}: the rows"));
-        same &= tally.same(levels == own_levels, || format!("{name}: the levels"));
-        let own = self.second.readings();
-        same &= tally.same(readings == own, || {
-            format!("{name}: readings {readings:?}, expected {own:?}")
+        tally.number(number);
+        self.given.push((number, by_value.readings));
+        let mut same = by_value.same(&expected, &format!("{name}, by value"), tally);
+        same &= in_place.same(&expected, &format!("{name}, in place"), tally);
+        same &= tally.same(self.in_place.holds(&self.by_value), || {
+            format!("{name}: the records differ")
         });
         // "A refusal changes no record, meter or slice; only 19 closes the
         // channel."
-        let kept = matches!(reply.number, 0 | 19) || after == self.proved;
-        same &= tally.same(kept, || format!("{name}: a refusal changed the record"));
-        self.proved = after;
-        same
+        let kept = matches!(number, 0 | 19) || self.by_value == before;
+        same & tally.same(kept, || format!("{name}: a refusal changed the record"))
+    }
+
+    fn offer_by_value(&mut self, octets: &[u8], mut slices: Slices) -> Given {
+        let next = calls::message(
+            &self.by_value,
+            octets,
+            slices.rows.slice(),
+            slices.levels.slice(),
+        );
+        self.by_value = next.receiver;
+        Given {
+            reply: next.reply.own(),
+            readings: calls::readings(&next.receiver),
+            slices,
+        }
+    }
+
+    fn offer_in_place(&mut self, octets: &[u8], mut slices: Slices) -> Given {
+        Given {
+            reply: self.in_place.offer(octets, &mut slices),
+            readings: self.in_place.readings(),
+            slices,
+        }
     }
 
     /// Document 01, "Meters and the look-back rule".
@@ -110,14 +139,14 @@ impl Both {
 /// Runs one stream and gives the last record. After the first message that
 /// differs the rest of the stream is left out.
 pub fn stream(stream: &Stream, name: &str, tally: &mut Tally) -> calls::Receiver {
-    let mut both = Both::start(stream.start, tally);
-    let start = both.second.readings();
+    let mut all = All::start(stream.start, tally);
+    let start = all.second.readings();
     for (place, offer) in stream.offers.iter().enumerate() {
         let message = format!("{name}, message {place}");
-        if !both.offer(offer, &message, tally) {
+        if !all.offer(offer, &message, tally) {
             break;
         }
     }
-    both.look_back(start, &stream.offers, name, tally);
-    both.proved
+    all.look_back(start, &stream.offers, name, tally);
+    all.by_value
 }

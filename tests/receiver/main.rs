@@ -1,4 +1,6 @@
-//! Compares the proved receiver with the second one on generated streams.
+//! Compares the proved receiver, by value and in place, with the second one on
+//! generated streams, and the two ways with each other on records that a host
+//! changed.
 //!
 //! usage: receiver_compare [COUNT]
 //!        receiver_compare --write OCTETS LISTING [COUNT [SEED]]
@@ -11,6 +13,11 @@
 
 mod broken;
 mod compare;
+mod forged;
+mod lengths;
+mod lent;
+mod messages;
+mod record;
 mod tally;
 
 #[path = "../calls.rs"]
@@ -26,7 +33,7 @@ use tally::Tally;
 /// The most messages of one stream.
 const LONGEST: usize = 200;
 
-/// Broken records are offered after every so many streams.
+/// Changed records are offered after every so many streams.
 const BETWEEN: usize = 16;
 
 fn main() -> ExitCode {
@@ -66,7 +73,7 @@ fn number(word: &str) -> Option<usize> {
 fn run(count: usize) -> bool {
     let mut tally = Tally::default();
     let opened = broken::opened(&mut tally);
-    broken::offer(&opened, &mut tally);
+    changed(&opened, &mut tally);
     let mut streams = 0;
     while tally.messages < count {
         let mut random = Random::new(streams as u64);
@@ -74,7 +81,7 @@ fn run(count: usize) -> bool {
         next.offers.truncate(count - tally.messages);
         let last = compare::stream(&next, &format!("stream {streams}"), &mut tally);
         if streams % BETWEEN == 0 {
-            broken::offer(&last, &mut tally);
+            changed(&last, &mut tally);
         }
         streams += 1;
         // The streams that differ are left out after the first message that
@@ -84,6 +91,13 @@ fn run(count: usize) -> bool {
         }
     }
     tally.finish()
+}
+
+/// Offers messages to copies of a record that a host changed.
+fn changed(record: &calls::Receiver, tally: &mut Tally) {
+    broken::offer(record, tally);
+    forged::offer(record, tally);
+    lengths::offer(record, tally);
 }
 
 /// Writes a stream and its listing.

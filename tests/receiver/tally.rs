@@ -5,10 +5,13 @@ const PRINTED: u64 = 20;
 
 #[derive(Default)]
 pub struct Tally {
-    /// Messages offered to records left by start or message.
+    /// Messages offered to records left by start or message, by value and in
+    /// place.
     pub messages: usize,
-    /// Messages offered to broken records.
+    /// Messages offered to broken records, each by value and in place.
     pub broken: usize,
+    /// Calls in place on arrays of other lengths than a record's.
+    pub lengths: usize,
     /// How often each number was given, starts not counted.
     numbers: [u64; 24],
     /// Numbers above 23.
@@ -46,9 +49,10 @@ impl Tally {
             .collect();
         let never = self.numbers.iter().filter(|count| **count == 0).count();
         println!(
-            "receiver: {} messages, {} to broken records; numbers {}; {} never occurred, {} differed",
+            "receiver: {} messages by value and in place, {} to broken records, {} calls on other lengths; numbers {}; {} never occurred, {} differed",
             self.messages,
             self.broken,
+            self.lengths,
             numbers.join(", "),
             never,
             self.differed

@@ -66,6 +66,9 @@ pub fn layouts(tally: &mut Tally) {
     drawn(tally, "66 before 65", both, &[0xC0, 0, 3], &closed, 1);
     let unlisted = layout(&[6, 38, 25, 32, 57, 64, 67, 255], 8);
     drawn(tally, "roles of no slot", unlisted, &[9; 8], &[row(&[])], 0);
+    let alone = layout(&[1, 34, 42, 39, 40, 50], 6);
+    let x = [row(&[(0, 256)])];
+    drawn(tally, "precision alone", alone, &[1, 9, 9, 9, 9, 9], &x, 0);
     let mut coloured = layout(&[9], 1);
     coloured.waves = [1, 2, 3, 4, 5, 6, 7, 8];
     coloured.colours = 200;

@@ -14,20 +14,31 @@ use output::make_room;
 use output::nothing_put;
 use output::put_cut;
 use output::put_meters;
-use receiver::Outcome;
 use receiver::Readings;
-use receiver::Receiver;
+use receiver::Reply;
+use receiver::place::CHANNEL_OCTETS;
+use receiver::place::METER_COUNT;
+use receiver::place::mewkoast_begin_on;
+use receiver::place::mewkoast_offer_on;
+use receiver::place::mewkoast_readings_on;
 ghost use mathlib.Core.Path.{_≡_};
 ghost use mathlib.Core.Bool.{false};
 ghost use Prim.Native.Nat.{_+_, _<_, _≤_};
 ghost use lib.ListN.{length};
-ghost use Rattle.receiver.specs.Slices.{slices};
+ghost use Rattle.receiver.specs.Slices.{slices, lent, lengths};
 ghost use Rattle.receiver.specs.Meters.{sums};
-ghost use Rattle.receiver.specs.Contract.{Started, Answered};
+ghost use Rattle.receiver.specs.Record.{recordIn};
+ghost use Rattle.receiver.specs.Contract.{outcome, Started, Answered};
 ghost use Rattle.lines.specs.Text.{room, Added};
 ghost use Rattle.lines.specs.Lines.{replyLine};
-ghost use Rattle.lines.specs.Reading.{part, unread, most, Ready, goesOn};
+ghost use Rattle.lines.specs.Reading.{unread, most, Ready, goesOn};
 ghost use Rattle.lines.specs.Listing.{ListedTo};
+
+// How many numbers are lent for the rows of a message.
+const NUMBERS: usize = 12000;
+
+// How many octets are lent for its levels.
+const LEVELS: usize = 1024;
 
 // What the listing of the messages leaves: the readings, the lines not yet written out, the octets not listed, and how many messages
 // there were.
@@ -38,73 +49,68 @@ struct Listed {
     messages: u64,
 }
 
-// A receiver started with three readings of 0.
-fn started() -> Outcome
-    ensures { λ o. ⌜ Started (sums 0 0 0) o ⌝ }
+// Starts a receiver with three readings of 0 on the record that is lent, as the two arrays whose types have its lengths.
+fn start(channels: &mut [u8; CHANNEL_OCTETS], meters: &mut [u64; METER_COUNT]) -> Reply
+    ensures { λ r. ⌜ Started (sums 0 0 0) (outcome (recordIn (now (channels .exit)) (now (meters .exit))) r) ⌝ }
 {
-    Receiver::start(0, 0, 0)
+    mewkoast_begin_on(channels, meters, 0, 0, 0)
 }
 
-// Offers the message at the front of the unread octets, with 12,000 numbers and 1,024 octets lent, and adds the line of the reply at a
+// Offers a message to the receiver on the lent record, with 12,000 numbers and 1,024 octets lent too, and adds the line of the reply at a
 // place of out, which is then the place after the line.
 fn list_message(
-    receiver: Receiver,
-    unread: Unread,
-    octets: &[u8],
-    rows: &mut [i32],
-    levels: &mut [u8],
+    channels: &mut [u8; CHANNEL_OCTETS],
+    meters: &mut [u64; METER_COUNT],
+    message: &[u8],
+    rows: &mut [i32; NUMBERS],
+    levels: &mut [u8; LEVELS],
     at: &mut usize,
     out: &mut [u8],
-) -> Outcome
-    requires { ⌜ unread .from + unread .size ≤ length (now octets) ⌝ }
-    requires { ⌜ length (now rows) ≡ 12000 ⌝ }
-    requires { ⌜ length (now levels) ≡ 1024 ⌝ }
+) -> Reply
     requires { ⌜ now at + room ≤ length (now out) ⌝ }
-    ensures { λ o. ⌜ Answered receiver (part (unread .from) (unread .from + unread .size) (now (octets .entry))) (slices (now (rows .entry)) (now (levels .entry))) o (slices (now (rows .exit)) (now (levels .exit))) ⌝ }
-    ensures { λ o. ⌜ Added (replyLine (o .reply)) (now (at .entry)) (now (out .entry)) (now (at .exit)) (now (out .exit)) ⌝ }
+    ensures { λ r. ⌜ lengths (slices (now (rows .entry)) (now (levels .entry))) ≡ lent 12000 1024 ⌝ }
+    ensures { λ r. ⌜ Answered (recordIn (now (channels .entry)) (now (meters .entry))) (now (message .entry)) (slices (now (rows .entry)) (now (levels .entry))) (outcome (recordIn (now (channels .exit)) (now (meters .exit))) r) (slices (now (rows .exit)) (now (levels .exit))) ⌝ }
+    ensures { λ r. ⌜ Added (replyLine r) (now (at .entry)) (now (out .entry)) (now (at .exit)) (now (out .exit)) ⌝ }
 {
-    let from = unread.from;
-    let next = from + unread.size;
-    let outcome = receiver.message(&octets[from..next], rows, levels);
-    *at = lines::reply_line(outcome.reply, *at, out);
-    outcome
+    let reply = mewkoast_offer_on(channels, meters, message, rows, levels);
+    *at = lines::reply_line(reply, *at, out);
+    reply
 }
 
-// Lists the messages, from a receiver that is started at 0 0 0, as far as whole ones come.
+// Lists the messages, from a receiver that is started at 0 0 0 on the lent record, as far as whole ones come.
 fn list_messages(
+    channels: &mut [u8; CHANNEL_OCTETS],
+    meters: &mut [u64; METER_COUNT],
     octets: &mut [u8],
     spare: &mut [u8],
-    rows: &mut [i32],
-    levels: &mut [u8],
+    rows: &mut [i32; NUMBERS],
+    levels: &mut [u8; LEVELS],
     out: &mut [u8],
 ) -> Listed
     requires { ⌜ most < length (now octets) ⌝ }
     requires { ⌜ most ≤ length (now spare) ⌝ }
     requires { ⌜ room ≤ length (now out) ⌝ }
-    requires { ⌜ length (now rows) ≡ 12000 ⌝ }
-    requires { ⌜ length (now levels) ≡ 1024 ⌝ }
     ensures { λ r. ⌜ Ready (r .unread) (now (octets .exit)) ⌝ }
     ensures { λ r. ⌜ goesOn (r .unread .size) (r .messages) ≡ false ⌝ }
     ensures { λ r. ⌜ ListedTo (r .messages) (r .readings) (unread (r .unread) (now (octets .exit))) ⌝ }
     ensures { λ r. ⌜ r .output .at ≤ length (now (out .exit)) ⌝ }
 {
-    let first = started();
-    let mut receiver = first.receiver;
+    start(channels, meters);
     let mut output = nothing_put();
     let mut unread = read_on(0, 0, octets, spare);
     let mut messages: u64 = 0;
     while reading::goes_on(unread.size, messages) {
         output = make_room(output, out);
-        let outcome = list_message(receiver, unread, octets, rows, levels, &mut output.at, out);
-        receiver = outcome.receiver;
-        let next = unread.from + unread.size;
+        let from = unread.from;
+        let next = from + unread.size;
+        let message = &octets[from..next];
+        list_message(channels, meters, message, rows, levels, &mut output.at, out);
         output = flush_to_wait(next, unread.end, octets, output, out);
         unread = read_on(next, unread.end, octets, spare);
         messages += 1;
     }
-    let readings = receiver.readings();
     Listed {
-        readings,
+        readings: mewkoast_readings_on(meters),
         output,
         unread,
         messages,
@@ -112,14 +118,20 @@ fn list_messages(
 }
 
 // Lists the messages, then what is cut, then the meters, and writes all out.
-fn list(octets: &mut [u8], spare: &mut [u8], rows: &mut [i32], levels: &mut [u8], out: &mut [u8])
+fn list(
+    channels: &mut [u8; CHANNEL_OCTETS],
+    meters: &mut [u64; METER_COUNT],
+    octets: &mut [u8],
+    spare: &mut [u8],
+    rows: &mut [i32; NUMBERS],
+    levels: &mut [u8; LEVELS],
+    out: &mut [u8],
+)
     requires { ⌜ most < length (now octets) ⌝ }
     requires { ⌜ most ≤ length (now spare) ⌝ }
     requires { ⌜ room ≤ length (now out) ⌝ }
-    requires { ⌜ length (now rows) ≡ 12000 ⌝ }
-    requires { ⌜ length (now levels) ≡ 1024 ⌝ }
 {
-    let listed = list_messages(octets, spare, rows, levels, out);
+    let listed = list_messages(channels, meters, octets, spare, rows, levels, out);
     let rest = cut_count(listed.unread, octets);
     let with_cut = put_cut(rest.count, listed.output, out);
     let with_meters = put_meters(listed.readings, with_cut, out);
@@ -127,10 +139,20 @@ fn list(octets: &mut [u8], spare: &mut [u8], rows: &mut [i32], levels: &mut [u8]
 }
 
 fn main() {
+    let mut channels = [0u8; CHANNEL_OCTETS];
+    let mut meters = [0u64; METER_COUNT];
     let mut octets = [0u8; 131072];
     let mut spare = io::large_buffer();
-    let mut rows = [0i32; 12000];
-    let mut levels = [0u8; 1024];
+    let mut rows = [0i32; NUMBERS];
+    let mut levels = [0u8; LEVELS];
     let mut out = io::large_buffer();
-    list(&mut octets, &mut spare, &mut rows, &mut levels, &mut out);
+    list(
+        &mut channels,
+        &mut meters,
+        &mut octets,
+        &mut spare,
+        &mut rows,
+        &mut levels,
+        &mut out,
+    );
 }

@@ -1,6 +1,8 @@
 -- What a call of the receiver is: what the contract of the function itself lets a caller learn, in Rattle or from C. `Learnt` is generated
--- from the `ensures`, so that these cannot drift from the code. A host may use the Rattle function or the C one, each time anew.
-use mathlib.Core.Path.{_≡_}
+-- from the `ensures`, so that these cannot drift from the code. A host may use the Rattle function, the C one, or the C one on a record that
+-- it lends, each time anew: the record that it lends is the receiver that the call before left.
+use mathlib.Core.Path.{_≡_, sym, ap, subst, subst₂, _∙_}
+use mathlib.Core.Bool.{true}
 use mathlib.Core.List.{List}
 use Prim.Native.Nat.{ℕ}
 use lib.IntN.{ℤ}
@@ -8,7 +10,8 @@ use contract.Lifetimes.{Lfts}
 use denote.Ref.{RefT, now}
 use Rattle.receiver.specs.Slices.{Slices, slices}
 use Rattle.receiver.specs.Meters.{Sums}
-use Rattle.receiver.specs.Contract.{Started, Answered, readingsOf}
+use Rattle.receiver.specs.Record.{recordIn, sized}
+use Rattle.receiver.specs.Contract.{outcome, Started, Answered, readingsOf}
 use Rattle.receiver.specs.declared.Receiver.{Receiver}
 use Rattle.receiver.specs.declared.Outcome.{Outcome}
 use Rattle.receiver.specs.declared.Readings.{Readings}
@@ -18,14 +21,30 @@ use Rattle.receiver.proofs.Receiver.readings.Reads as readings-reads
 use Rattle.receiver.proofs.host.mewkoast_start.Reads as c-start-reads
 use Rattle.receiver.proofs.host.mewkoast_message.Reads as c-message-reads
 use Rattle.receiver.proofs.host.mewkoast_readings.Reads as c-readings-reads
+use Rattle.receiver.proofs.place.mewkoast_begin_on.Reads as begin-on-reads
+use Rattle.receiver.proofs.place.mewkoast_offer_on.Reads as offer-on-reads
+use Rattle.receiver.proofs.place.mewkoast_readings_on.Reads as readings-on-reads
 
 -- ---- the calls
 
+-- a record that a host lends: references to its octets and its meters
+pub record RecordRefs : Type 0 where
+  pub channels : RefT (List ℕ)
+  pub meters : RefT (List ℕ)
+
+-- what they hold
+abbrev pub kept : RecordRefs → Receiver
+kept at = recordIn (now (at .channels)) (now (at .meters))
+
+-- start; in place on a record that is lent, whatever it holds, whose arrays have their lengths
 pub data StartCall (s : Sums) (o : Outcome) : Type 0 where
   rattle : (κs : Lfts 0)
       → start-reads.Learnt κs (s .litTime, (s .points, (s .litPoints, tt))) o (s .litTime, (s .points, (s .litPoints, tt))) → StartCall s o
   c : (κs : Lfts 0)
       → c-start-reads.Learnt κs (s .litTime, (s .points, (s .litPoints, tt))) o (s .litTime, (s .points, (s .litPoints, tt))) → StartCall s o
+  inPlace : (κs : Lfts 2) (at left : RecordRefs) → sized (kept at) ≡ true
+      → begin-on-reads.Learnt κs (at .channels, (at .meters, (s .litTime, (s .points, (s .litPoints, tt))))) (o .reply) (left .channels, (left .meters, (s .litTime, (s .points, (s .litPoints, tt)))))
+      → o .receiver ≡ kept left → StartCall s o
 
 -- the slices lent with a call, at its beginning or at its end
 pub record SliceRefs : Type 0 where
@@ -43,22 +62,32 @@ pub data MessageCall (r : Receiver) (octets : RefT (List ℕ)) (lent : SliceRefs
   c : (κs : Lfts 3)
       → c-message-reads.Learnt κs (r, (octets, (lent .rows, (lent .levels, tt)))) o (r, (octets, (left .rows, (left .levels, tt))))
       → MessageCall r octets lent o left
+  inPlace : (κs : Lfts 5) (at next : RecordRefs) → kept at ≡ r
+      → offer-on-reads.Learnt κs (at .channels, (at .meters, (octets, (lent .rows, (lent .levels, tt))))) (o .reply) (next .channels, (next .meters, (octets, (left .rows, (left .levels, tt)))))
+      → o .receiver ≡ kept next → MessageCall r octets lent o left
 
 pub data ReadingsCall (r : Receiver) (q : Readings) : Type 0 where
   rattle : (κs : Lfts 0) → readings-reads.Learnt κs (r, tt) q (r, tt) → ReadingsCall r q
   c : (κs : Lfts 0) → c-readings-reads.Learnt κs (r, tt) q (r, tt) → ReadingsCall r q
+  inPlace : (κs : Lfts 1) (at : RecordRefs) → kept at ≡ r
+      → readings-on-reads.Learnt κs (at .meters, tt) q (at .meters, tt) → ReadingsCall r q
 
--- ---- either way a caller learns the same
+-- ---- each way a caller learns the same
 
 pub start-learnt : {s : Sums} {o : Outcome} → StartCall s o → Started s o
 start-learnt (rattle κs learnt) = learnt
 start-learnt (c κs learnt) = learnt
+start-learnt {s} {o} (inPlace κs at left e learnt same) =
+    subst (λ (r : Receiver). Started s (outcome r (o .reply))) (sym same) (learnt .started e)
 
 pub message-learnt : {r : Receiver} {octets : RefT (List ℕ)} {lent : SliceRefs} {o : Outcome} {left : SliceRefs}
     → MessageCall r octets lent o left → Answered r (now octets) (held lent) o (held left)
 message-learnt (rattle κs learnt) = learnt
 message-learnt (c κs learnt) = learnt
+message-learnt {r} {octets} {lent} {o} {left} (inPlace κs at next e learnt same) =
+    subst₂ (λ (a b : Receiver). Answered a (now octets) (held lent) (outcome b (o .reply)) (held left)) e (sym same) learnt
 
 pub readings-learnt : {r : Receiver} {q : Readings} → ReadingsCall r q → q ≡ readingsOf r
 readings-learnt (rattle κs learnt) = learnt
 readings-learnt (c κs learnt) = learnt
+readings-learnt (inPlace κs at e learnt) = learnt ∙ ap readingsOf e

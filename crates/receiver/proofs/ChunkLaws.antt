@@ -14,7 +14,7 @@ use Rattle.tags.specs.Rows.{sampleOctets, pointsBy, litPointsBy, roomBy, drawnB
 use Rattle.tags.specs.RowsLaws.{litPoints-le-points, points-le-octets}
 use Rattle.tags.specs.Dictionary.{Sample}
 use Rattle.tags.specs.Dimmer.{Mapping}
-use Rattle.tags.specs.Layout.{sampleOf, mappingOf}
+use Rattle.tags.specs.Kept.{sampleIn, mappingIn}
 use Rattle.tags.specs.Limits.{rowSize}
 use Rattle.tags.specs.Choice.{refuse}
 use Rattle.tags.specs.ChoiceLaws.{and-left, and-right, or-cases, first-zero-left, first-zero-right, refuse-zero}
@@ -61,14 +61,14 @@ module _ (t : ℕ) (v : Configuration) where
 
 -- ---- what governs a chunk that draws or dims: the channel's layout, or its mapping
 
-module _ (t : ℕ) (k : Config) where
-  pub drawing-sample : isDrawing t (configurationOf k) ≡ true → configurationOf k .sample ≡ sampleOf (k .layout)
+module _ (t : ℕ) (k : Config) (area : List ℕ) where
+  pub drawing-sample : isDrawing t (configurationOf k area) ≡ true → configurationOf k area .sample ≡ sampleIn (k .size) (k .colours) area
   drawing-sample d =
-      graphic-sample k (rw (← configuration-mode k) (drawing-cases (λ a b. graphicMode b ≡ true) t (configurationOf k) d refl refl))
+      graphic-sample k area (rw (← configuration-mode k area) (drawing-cases (λ a b. graphicMode b ≡ true) t (configurationOf k area) d refl refl))
 
-  pub isDimming-mapping : isDimming t (configurationOf k) ≡ true → configurationOf k .mapping ≡ mappingOf (k .dimmer)
+  pub isDimming-mapping : isDimming t (configurationOf k area) ≡ true → configurationOf k area .mapping ≡ mappingIn (k .size) area
   isDimming-mapping d =
-      dimming-mapping k (rw (← configuration-mode k) (isDimming-cases (λ a b. dimmerMode b ≡ true) t (configurationOf k) d refl refl))
+      dimming-mapping k area (rw (← configuration-mode k area) (isDimming-cases (λ a b. dimmerMode b ≡ true) t (configurationOf k area) d refl refl))
 
 -- ---- what checks 20 to 22 leave
 
@@ -116,54 +116,54 @@ pub lit-duration : (dark : Bool) (time : ℕ) → cond (not dark) time 0 ≡ con
 lit-duration true time = refl
 lit-duration false time = refl
 
-module _ (t : ℕ) (octets : List ℕ) (k : Config) (s : Slices) where
+module _ (t : ℕ) (octets : List ℕ) (k : Config) (area : List ℕ) (s : Slices) where
   abbrev this : Chunk
   this = chunk t octets
 
   -- a wave or frame with room for its rows
-  pub drawn-rows : (time points lit : ℕ) (rows₁ : List ℤ) → isDrawing t (configurationOf k) ≡ true
-      → contentNumber this (configurationOf k) (lengths s) ≡ 0
-      → points ≡ pointsBy (sampleOf (k .layout)) (body this)
+  pub drawn-rows : (time points lit : ℕ) (rows₁ : List ℤ) → isDrawing t (configurationOf k area) ≡ true
+      → contentNumber this (configurationOf k area) (lengths s) ≡ 0
+      → points ≡ pointsBy (sampleIn (k .size) (k .colours) area) (body this)
       → lit
-      ≡ cond (roomBy (sampleOf (k .layout)) (body this) (s .rows))
-      (litPointsBy (sampleOf (k .layout)) (body this))
+      ≡ cond (roomBy (sampleIn (k .size) (k .colours) area) (body this) (s .rows))
+      (litPointsBy (sampleIn (k .size) (k .colours) area) (body this))
       0
       → time ≡ cond (eqb lit 0) 0 (duration this)
       → rows₁
-      ≡ cond (roomBy (sampleOf (k .layout)) (body this) (s .rows))
-      (drawnBy (sampleOf (k .layout)) (body this) (s .rows))
+      ≡ cond (roomBy (sampleIn (k .size) (k .colours) area) (body this) (s .rows))
+      (drawnBy (sampleIn (k .size) (k .colours) area) (body this) (s .rows))
       (s .rows)
-      → (_≡_ {A = Counts} (record { «lit_time» = time; points = points; «lit_points» = lit; levels = 0 }) (countsOf this (configurationOf k)))
-      × (slices rows₁ (s .levels) ≡ drawn this (configurationOf k) s)
+      → (_≡_ {A = Counts} (record { «lit_time» = time; points = points; «lit_points» = lit; levels = 0 }) (countsOf this (configurationOf k area)))
+      × (slices rows₁ (s .levels) ≡ drawn this (configurationOf k area) s)
   unfolding pointsOf litPointsOf levelsOf addedBy drawn
   drawn-rows time points lit rows₁ d e ep el et er =
-      let sample = drawing-sample t k d in
-      let other = not-dimming t (configurationOf k) d in
-      let room : roomBy (sampleOf (k .layout)) (body this) (s .rows) ≡ true =
+      let sample = drawing-sample t k area d in
+      let other = not-dimming t (configurationOf k area) d in
+      let room : roomBy (sampleIn (k .size) (k .colours) area) (body this) (s .rows) ≡ true =
       ap (λ (a : Sample). roomBy a (body this) (s .rows)) (sym sample)
-      ∙ drawing-room this (configurationOf k) (lengths s) e d in
+      ∙ drawing-room this (configurationOf k area) (lengths s) e d in
       (rw (d, other, sample, et, ← (rw room at el), ep), rw (d, other, sample) (ap (λ (a : List ℤ). slices a (s .levels)) (rw room at er)))
 
   -- dimmer levels that fit
-  pub drawn-levels : (mode n : ℕ) (levels₁ : List ℕ) → isDimming t (configurationOf k) ≡ true
-      → contentNumber this (configurationOf k) (lengths s) ≡ 0 → mode ≡ modeIn (k .state)
-      → n ≡ levelsCounted (mappingOf (k .dimmer)) (length (body this))
-      → levels₁ ≡ levelsDrawn mode (mappingOf (k .dimmer)) (body this) (s .levels)
-      → (_≡_ {A = Counts} (record { «lit_time» = 0; points = 0; «lit_points» = 0; levels = n }) (countsOf this (configurationOf k)))
-      × (slices (s .rows) levels₁ ≡ drawn this (configurationOf k) s)
+  pub drawn-levels : (mode n : ℕ) (levels₁ : List ℕ) → isDimming t (configurationOf k area) ≡ true
+      → contentNumber this (configurationOf k area) (lengths s) ≡ 0 → mode ≡ modeIn (k .state)
+      → n ≡ levelsCounted (mappingIn (k .size) area) (length (body this))
+      → levels₁ ≡ levelsDrawn mode (mappingIn (k .size) area) (body this) (s .levels)
+      → (_≡_ {A = Counts} (record { «lit_time» = 0; points = 0; «lit_points» = 0; levels = n }) (countsOf this (configurationOf k area)))
+      × (slices (s .rows) levels₁ ≡ drawn this (configurationOf k area) s)
   unfolding pointsOf litPointsOf levelsOf addedBy drawn levelsCounted levelsDrawn
   drawn-levels mode n levels₁ d e em en el =
-      let mapping = isDimming-mapping t k d in
-      let other = not-drawing t (configurationOf k) d in
-      let fits : levelsFit (mappingOf (k .dimmer)) (length (body this)) ≡ true =
+      let mapping = isDimming-mapping t k area d in
+      let other = not-drawing t (configurationOf k area) d in
+      let fits : levelsFit (mappingIn (k .size) area) (length (body this)) ≡ true =
       ap (λ (m : Mapping). levelsFit m (length (body this))) (sym mapping)
-      ∙ dimming-fits this (configurationOf k) (lengths s) e d in (
+      ∙ dimming-fits this (configurationOf k area) (lengths s) e d in (
         rw (other, d, mapping) (ap (λ (a : ℕ). record { «lit_time» = 0; points = 0; «lit_points» = 0; levels = a }) (rw fits at en)),
-        rw (other, d, mapping, configuration-mode k, ← em) (ap (λ (a : List ℕ). slices (s .rows) a) (rw fits at el)),
+        rw (other, d, mapping, configuration-mode k area, ← em) (ap (λ (a : List ℕ). slices (s .rows) a) (rw fits at el)),
       )
 
   -- neither: nothing is written
-  pub drawn-none : isDrawing t (configurationOf k) ≡ false → isDimming t (configurationOf k) ≡ false
-      → (noCounts ≡ countsOf this (configurationOf k)) × (s ≡ drawn this (configurationOf k) s)
+  pub drawn-none : isDrawing t (configurationOf k area) ≡ false → isDimming t (configurationOf k area) ≡ false
+      → (noCounts ≡ countsOf this (configurationOf k area)) × (s ≡ drawn this (configurationOf k area) s)
   unfolding pointsOf litPointsOf levelsOf addedBy drawn
   drawn-none d m = (rw (d, m), rw (d, m))

@@ -1,7 +1,7 @@
 -- The one claim over every meter history (document 01, "Meters and the look-back rule"; demand 3, with demands 1 and 2 over a history):
--- take any list of messages, whatever slices are lent with each, offered in order to a receiver newly started, each by a Rattle call or
--- by a C call. Then the three meters equal the starting readings plus what the look-back rule works out from the list, the readings and
--- the lent lengths alone; every message gets the rule's whole reply; the next message's reply, and the rows and levels as it leaves
+-- take any list of messages, whatever slices are lent with each, offered in order to a receiver newly started, each by a Rattle call, by
+-- a C call or by a call in place. Then the three meters equal the starting readings plus what the look-back rule works out from the list,
+-- the readings and the lent lengths alone; every message gets the rule's whole reply; the next message's reply, and the rows and levels as it leaves
 -- them, are the rule's; at every moment of the run no meter has passed its limit, and none falls from there on; and check 1 never
 -- applies.
 --     Ran                         a run: start, then each message offered to the receiver that the one before handed back
@@ -23,7 +23,8 @@ use Rattle.receiver.specs.declared.Outcome.{Outcome}
 use Rattle.receiver.specs.declared.Reply.{Reply}
 use Rattle.receiver.specs.declared.Readings.{Readings}
 use Rattle.receiver.proofs.CheckLaws.{not-above-refl, not-above-trans}
-use Rattle.receiver.proofs.LookBackLaws.{Agrees, running-within, starting-within, started-agrees, reply-agrees, slices-agree, answered-agrees, answered-grows}
+use Rattle.receiver.proofs.FreshLaws.{starting-within}
+use Rattle.receiver.proofs.LookBackLaws.{Agrees, running-within, started-agrees, reply-agrees, slices-agree, answered-agrees, answered-grows}
 use Rattle.receiver.proofs.Calls.{StartCall, SliceRefs, held, MessageCall, ReadingsCall, start-learnt, message-learnt, readings-learnt}
 
 -- what the look-back rule is given of a message: its octets and the lengths of the slices lent with it

@@ -1,5 +1,6 @@
 pub mod CheckLaws
 pub mod HeaderLaws
+pub mod PartLaws
 pub mod RecordLaws
 pub mod SettleLaws
 pub mod FreshLaws

@@ -8,7 +8,7 @@ use Rattle.receiver.specs.Message.{channelOf}
 use Rattle.receiver.specs.Governing.{Configuration, meant}
 use Rattle.receiver.specs.Slices.{Slices, Lent, lengths}
 use Rattle.receiver.specs.Chunk.{chunkOf}
-use Rattle.receiver.specs.Meters.{Sums, sums, plus, overLimit, NotAbove, addedBy}
+use Rattle.receiver.specs.Meters.{Sums, plus, overLimit, NotAbove, addedBy}
 use Rattle.receiver.specs.Checks.{governs, numberOf}
 use Rattle.receiver.specs.Effects.{replyOf, slicesAfter, sumsAfter, decides, decided, governingAfter}
 use Rattle.receiver.specs.LookBack.{Offer, offer, Judged, lookback, channelsBy, workedOut, running, judge, judged, startingSums}
@@ -50,14 +50,6 @@ running-within s (o ∷ offers) h =
     let j = judge s js o in
     subst (λ (t : Sums). overLimit t ≡ false) (sumsAfter-plus (o .octets) (j .number) (governs (o .octets) (channelsBy js)) s (workedOut js))
     (sumsAfter-within (o .octets) (o .lent) (channelsBy js) (running s js) (running-within s offers h))
-
--- readings that start sets are within their limit
-pub starting-within : (s : Sums) → overLimit (startingSums s) ≡ false
-starting-within s = go (overLimit s) refl
-  where
-    go : (b : Bool) → overLimit s ≡ b → overLimit (cond b (sums 0 0 0) s) ≡ false
-    go true e = refl
-    go false e = e
 
 -- ---- agreement
 

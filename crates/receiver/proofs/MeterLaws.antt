@@ -2,13 +2,14 @@
 use mathlib.Core.Path.{_≡_, refl, _∙_}
 use Prim.Native.Nat.{ℕ, _+_, _≤_}
 use mathlib.Core.Bool.{Bool, true, false, cond, _||_}
+use mathlib.Core.List.{List}
 use native.Mathlib.Nat.{add-zero}
 use native.Mathlib.Omega.{arith}
 use lib.Dec.{ltb, eqb}
 use borrow.Author.Tests.{ltb-false, le-ltb}
 use Rattle.tags.specs.Rows.{pointsBy, litPointsBy}
 use Rattle.tags.specs.RowsLaws.{litPoints-le-points}
-use Rattle.tags.specs.Layout.{sampleOf}
+use Rattle.tags.specs.Kept.{sampleIn}
 use Rattle.tags.specs.Choice.{refuse}
 use Rattle.tags.specs.ChoiceLaws.{or-false-left, or-false-right}
 use Rattle.receiver.specs.Governing.{Configuration}
@@ -26,13 +27,13 @@ unfolding meterNumber addedBy pointsOf litPointsOf
 meter-idle k v s d h = rw (d, add-zero (s .litTime), add-zero (s .points), add-zero (s .litPoints), h)
 
 -- one that draws adds its Duration if a point is lit, its points and its lit points
-pub meter-drawing : (k : Chunk) (held : Config) (s : Sums) (p l a : ℕ) → isDrawing (k .type) (configurationOf held) ≡ true
-    → p ≡ pointsBy (sampleOf (held .layout)) (body k)
-    → l ≡ litPointsBy (sampleOf (held .layout)) (body k)
+pub meter-drawing : (k : Chunk) (held : Config) (area : List ℕ) (s : Sums) (p l a : ℕ) → isDrawing (k .type) (configurationOf held area) ≡ true
+    → p ≡ pointsBy (sampleIn (held .size) (held .colours) area) (body k)
+    → l ≡ litPointsBy (sampleIn (held .size) (held .colours) area) (body k)
     → a ≡ cond (eqb l 0) 0 (duration k)
-    → meterNumber k (configurationOf held) s ≡ refuse (overLimit (sums (s .litTime + a) (s .points + p) (s .litPoints + l))) 23
+    → meterNumber k (configurationOf held area) s ≡ refuse (overLimit (sums (s .litTime + a) (s .points + p) (s .litPoints + l))) 23
 unfolding meterNumber addedBy pointsOf litPointsOf
-meter-drawing k held s p l a d ep el ea = rw (d, drawing-sample (k .type) held d, ea, el, ep)
+meter-drawing k held area s p l a d ep el ea = rw (d, drawing-sample (k .type) held area d, ea, el, ep)
 
 -- where no meter would pass its limit with the whole Duration and every point lit, none does with less
 far-from-limit : (l p q t n x y : ℕ) → overLimit (sums (l + t) (p + n) (q + n)) ≡ false → x ≤ t → y ≤ n
@@ -43,14 +44,14 @@ far-from-limit l p q t n x y e hx hy =
     let b = ltb-false limit (q + n) (or-false-right (ltb limit (l + t) || ltb limit (p + n)) (ltb limit (q + n)) e) in
     rw (le-ltb limit (l + x) (omega arith), or-false-right (ltb limit (l + t)) (ltb limit (p + n)) both, le-ltb limit (q + y) (omega arith))
 
-pub meter-far : (k : Chunk) (held : Config) (s : Sums) (p time : ℕ) → isDrawing (k .type) (configurationOf held) ≡ true
-    → p ≡ pointsBy (sampleOf (held .layout)) (body k) → time ≡ duration k
+pub meter-far : (k : Chunk) (held : Config) (area : List ℕ) (s : Sums) (p time : ℕ) → isDrawing (k .type) (configurationOf held area) ≡ true
+    → p ≡ pointsBy (sampleIn (held .size) (held .colours) area) (body k) → time ≡ duration k
     → overLimit (sums (s .litTime + time) (s .points + p) (s .litPoints + p)) ≡ false
-    → meterNumber k (configurationOf held) s ≡ 0
-meter-far k held s p time d ep et far =
-    let sample = sampleOf (held .layout) in
+    → meterNumber k (configurationOf held area) s ≡ 0
+meter-far k held area s p time d ep et far =
+    let sample = sampleIn (held .size) (held .colours) area in
     let lit = litPointsBy sample (body k) in
-    meter-drawing k held s p lit (cond (eqb lit 0) 0 (duration k)) d ep refl refl
+    meter-drawing k held area s p lit (cond (eqb lit 0) 0 (duration k)) d ep refl refl
     ∙ rw
     (far-from-limit (s .litTime) (s .points) (s .litPoints) time p (cond (eqb lit 0) 0 (duration k)) lit far (rw et (less (eqb lit 0)))
     (rw ep (litPoints-le-points sample (body k))))

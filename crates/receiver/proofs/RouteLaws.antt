@@ -1,7 +1,7 @@
 -- Laws about routing: the known modes, and what a configuration of a known mode means.
-use mathlib.Core.Path.{_≡_, refl, sym, ap, _∙_}
+use mathlib.Core.Path.{_≡_, refl, ap, _∙_}
 use Prim.Native.Nat.{ℕ, _+_, _-_, _<_, _≤_}
-use mathlib.Core.Bool.{Bool, true, false, false≢true, cond, _||_}
+use mathlib.Core.Bool.{true, false, cond, _||_}
 use mathlib.Core.Logic.{⊎-elim}
 use native.Mathlib.Omega.{arith}
 use lib.Dec.{eqb, lit≤}
@@ -11,10 +11,9 @@ use mathlib.Core.List.{List}
 use Rattle.tags.specs.ChoiceLaws.{or-cases, not-zero}
 use Rattle.tags.specs.Dictionary.{Sample, noSample, dictionaryNumber, dictionarySample}
 use Rattle.tags.specs.Dimmer.{Mapping, noMapping, dimmerNumber, dimmerMapping}
-use Rattle.tags.specs.Layout.{sampleOf, mappingOf, layoutOf, dimmerOf, emptyLayout, emptyDimmer, layoutSound, dimmerSound, hasOctets}
-use Rattle.tags.specs.LayoutLaws.{sampleOf-layoutOf, mappingOf-dimmerOf, dictionary-layout-sound, dictionary-has-octets, dimmer-tags-sound}
-use Rattle.tags.specs.declared.Layout.{Layout}
-use Rattle.tags.specs.declared.Dimmer.{Dimmer}
+use Rattle.tags.specs.Layout.{layoutOf, dimmerOf}
+use Rattle.tags.specs.Kept.{sampleIn, mappingIn, sizesFit}
+use Rattle.tags.specs.KeptLaws.{dictionary-sizes, dimmer-sizes}
 use Rattle.receiver.specs.Modes.{graphicMode, dimmerMode, knownMode, serviceFits}
 use Rattle.receiver.specs.Governing.{Configuration, meant}
 use Rattle.receiver.specs.Checks.{tagsNumber, routingNumber}
@@ -58,39 +57,33 @@ module _ (k : Config) (mode : ℕ) (e : k .state ≡ mode + 1) where
   state-open : openState (k .state) ≡ true
   state-open = let not-closed : eqb (mode + 1) 0 ≡ false = ne-eqb (mode + 1) 0 (omega arith) in rw (e, not-closed)
 
-  pub configuration-open : configurationOf k
+  pub configuration-state : (area : List ℕ) → configurationOf k area
       ≡ record {
         isOpen = true;
         mode = mode;
         match = k .«match_bits»;
-        sample = cond (graphicMode mode) (sampleOf (k .layout)) noSample;
-        mapping = cond (dimmerMode mode) (mappingOf (k .dimmer)) noMapping;
+        sample = cond (graphicMode mode) (sampleIn (k .size) (k .colours) area) noSample;
+        mapping = cond (dimmerMode mode) (mappingIn (k .size) area) noMapping;
       }
   unfolding configurationOf
-  configuration-open = rw (state-open, state-mode)
+  configuration-state area = rw (state-open, state-mode)
 
-  -- it is consistent where what is read of its mode is sound
-  consistent-graphic : graphicMode mode ≡ true → hasOctets (k .layout) ≡ true → layoutSound (k .layout) ≡ true → consistentAt k ≡ true
+  -- it is consistent where the mode is one that there is and the sizes fit
+  consistent-open : knownMode mode ≡ true → sizesFit (k .size) (k .colours) ≡ true → consistentAt k ≡ true
   unfolding consistentAt
-  consistent-graphic g h l = rw (state-mode, g, h, l)
-
-  consistent-dimming : dimmerMode mode ≡ true → dimmerSound (k .dimmer) ≡ true → consistentAt k ≡ true
-  unfolding consistentAt
-  consistent-dimming g d = rw (state-mode, dimmerMode-cases (λ m. graphicMode m ≡ false) mode g refl refl, g) d
-
-  consistent-void : mode ≡ 0 → consistentAt k ≡ true
-  unfolding consistentAt
-  consistent-void z = rw (state-mode, z)
+  consistent-open known fit = rw (state-mode, known, fit)
 
 -- ---- each way through the checks of a routing
 
-module _ (mode service match : ℕ) (tags : List ℕ) where
-  -- the configuration of the routing, of a layout and a mapping
-  abbrev pub configured : Layout → Dimmer → Config
-  configured l d = record { state = mode + 1; «match_bits» = match; layout = l; dimmer = d }
+module _ (mode service match : ℕ) (tags area : List ℕ) where
+  -- what is found for the routing, with two sizes
+  abbrev pub routed : ℕ → ℕ → ℕ → Found
+  routed number size colours =
+      record { number = number; config = record { state = mode + 1; «match_bits» = match; size = size; colours = colours } }
 
   -- a refusal finds nothing that governs
-  refused-found : (f : Found) (n : ℕ) → 0 < n → f .number ≡ n → n ≡ routingNumber mode service tags → RoutedTo mode service match tags f
+  refused-found : (f : Found) (n : ℕ) → 0 < n → f .number ≡ n → n ≡ routingNumber mode service tags
+      → RoutedTo mode service match tags f area
   refused-found f n h e q =
       record {
         number = e ∙ q;
@@ -98,63 +91,60 @@ module _ (mode service match : ℕ) (tags : List ℕ) where
         sound = λ z. absurd (not-zero (f .number) n h e z);
       }
 
-  pub found-unknown : (f : Found) → f .number ≡ 6 → knownMode mode ≡ false → RoutedTo mode service match tags f
+  pub found-unknown : (f : Found) → f .number ≡ 6 → knownMode mode ≡ false → RoutedTo mode service match tags f area
   unfolding routingNumber
   found-unknown f e k = refused-found f 6 (lit≤ tt) e (rw k)
 
   module _ (known : knownMode mode ≡ true) where
-    pub found-misfit : (f : Found) → f .number ≡ 7 → serviceFits mode service ≡ false → RoutedTo mode service match tags f
+    pub found-misfit : (f : Found) → f .number ≡ 7 → serviceFits mode service ≡ false → RoutedTo mode service match tags f area
     unfolding routingNumber
     found-misfit f e k = refused-found f 7 (lit≤ tt) e (rw (known, k))
 
     module _ (fits : serviceFits mode service ≡ true) where
+      -- the area reads back as the sample of the dictionary
       pub found-graphic : graphicMode mode ≡ true
+          → (let l = layoutOf (dictionarySample mode tags) in sampleIn (l .width) (l .colours) area ≡ dictionarySample mode tags)
           → RoutedTo mode service match tags
-          (record { number = dictionaryNumber mode tags; config = configured (layoutOf (dictionarySample mode tags)) emptyDimmer })
+          (let l = layoutOf (dictionarySample mode tags) in routed (dictionaryNumber mode tags) (l .width) (l .colours)) area
       unfolding routingNumber tagsNumber meant
-      found-graphic g =
-          let k = configured (layoutOf (dictionarySample mode tags)) emptyDimmer in
+      found-graphic g kept =
+          let l = layoutOf (dictionarySample mode tags) in
+          let f = routed (dictionaryNumber mode tags) (l .width) (l .colours) in
           record {
             number = rw (known, fits, g);
-            config = λ z. configuration-open k mode refl ∙ rw (g, graphicMode-not-dimmerMode mode g) (ap opened (sampleOf-layoutOf (dictionarySample mode tags)));
-            sound = λ z. consistent-graphic k mode refl g (dictionary-has-octets mode tags z) (dictionary-layout-sound mode tags);
+            config = λ z.
+                configuration-state (f .config) mode refl area
+                ∙ rw (g, graphicMode-not-dimmerMode mode g) (ap opened kept);
+            sound = λ z. consistent-open (f .config) mode refl known (dictionary-sizes mode tags);
           }
         where
           opened : Sample → Configuration
           opened s = record { isOpen = true; mode = mode; match = match; sample = s; mapping = noMapping }
 
+      -- the area reads back as the mapping of the dimmer tags
       pub found-dimming : graphicMode mode ≡ false → dimmerMode mode ≡ true → ((k : ℕ) → getD tags k 0 < 256)
-          → RoutedTo mode service match tags
-          (record { number = dimmerNumber tags; config = configured emptyLayout (dimmerOf (dimmerMapping tags)) })
+          → (let d = dimmerOf (dimmerMapping tags) in mappingIn (d .count) area ≡ dimmerMapping tags)
+          → RoutedTo mode service match tags (routed (dimmerNumber tags) (dimmerOf (dimmerMapping tags) .count) 0) area
       unfolding routingNumber tagsNumber meant
-      found-dimming g m octets =
-          let k = configured emptyLayout (dimmerOf (dimmerMapping tags)) in
+      found-dimming g m octets kept =
+          let f = routed (dimmerNumber tags) (dimmerOf (dimmerMapping tags) .count) 0 in
           record {
             number = rw (known, fits, g, m);
-            config = λ z. configuration-open k mode refl ∙ rw (g, m) (ap opened (mappingOf-dimmerOf (dimmerMapping tags)));
-            sound = λ z. consistent-dimming k mode refl m (dimmer-tags-sound tags octets);
+            config = λ z.
+                configuration-state (f .config) mode refl area
+                ∙ rw (g, m) (ap opened kept);
+            sound = λ z. consistent-open (f .config) mode refl known (dimmer-sizes tags octets);
           }
         where
           opened : Mapping → Configuration
           opened n = record { isOpen = true; mode = mode; match = match; sample = noSample; mapping = n }
 
       -- neither: mode 0
-      pub found-void : graphicMode mode ≡ false → dimmerMode mode ≡ false
-          → RoutedTo mode service match tags (record { number = 0; config = configured emptyLayout emptyDimmer })
-      unfolding routingNumber tagsNumber meant
+      pub found-void : graphicMode mode ≡ false → dimmerMode mode ≡ false → RoutedTo mode service match tags (routed 0 0 0) area
+      unfolding routingNumber tagsNumber meant sizesFit
       found-void g m =
           record {
             number = rw (known, fits, g, m);
-            config = λ z. rw (configuration-open (configured emptyLayout emptyDimmer) mode refl, g, m);
-            sound = λ z. consistent-void (configured emptyLayout emptyDimmer) mode refl (is-zero g m);
+            config = λ z. rw (configuration-state (routed 0 0 0 .config) mode refl area, g, m);
+            sound = λ z. consistent-open (routed 0 0 0 .config) mode refl known refl;
           }
-        where
-          clash : (b : Bool) → b ≡ false → b ≡ true → mode ≡ 0
-          clash b p q = absurd (false≢true (sym p ∙ q))
-
-          is-zero : graphicMode mode ≡ false → dimmerMode mode ≡ false → mode ≡ 0
-          is-zero g m =
-              ⊎-elim
-              (λ a. ⊎-elim (eqb-true mode 0) (clash (graphicMode mode) g) (or-cases (eqb mode 0) (graphicMode mode) a))
-              (clash (dimmerMode mode) m)
-              (or-cases (eqb mode 0 || graphicMode mode) (dimmerMode mode) known)

@@ -1,43 +1,42 @@
--- Demand 3 speaks of every list: each list of messages and lent slices has a run, by Rattle or C calls as one likes, so that the claim of
--- History.antt is not empty. A message's octets are numbers below 256. The run is made of records that hold what the definitions say; the
+-- Demand 3 speaks of every list: each list of messages and lent slices has a run, by Rattle calls, C calls and C calls in place as one
+-- likes, so that the claim of History.antt is not empty. A message's octets are numbers below 256. The run is made of records that hold what the definitions say; the
 -- functions' own answers are others in what no call shows.
 use mathlib.Core.Path.{_≡_, refl, sym, _∙_, subst₂}
 use Prim.Native.Nat.{ℕ, _+_, _-_, _<_}
 use native.Mathlib.Decide.{decLt}
 use native.Mathlib.Omega.{arith}
-use mathlib.Core.Bool.{Bool, true, false, cond}
+use mathlib.Core.Bool.{Bool, true, false, false≢true}
 use mathlib.Core.List.{List, [], _∷_, map, reverse, reverseAux, reverse-reverse}
-use lib.ListN.{getD, take, drop, length-set, length-take, List·getD-eq-default}
+use lib.ListN.{length, getD, take, drop, replicate, length-take, length-replicate, List·getD-eq-default}
 use lib.Seq.{getD-take, getD-drop}
 use lib.Dec.{eqb}
-use borrow.Author.Tests.{eqb-true, eqb-false}
+use borrow.Author.Tests.{eqb-true, eq-eqb}
 use denote.Ref.{RefT, now}
-use Rattle.tags.specs.Choice.{refuse}
-use Rattle.tags.specs.Layout.{emptyLayout, emptyDimmer}
-use Rattle.receiver.specs.Message.{channelOf, routes, modeOf, serviceOf, matchBits, dataStart, tagsOf}
-use Rattle.receiver.specs.Modes.{graphicMode, dimmerMode, knownMode, serviceFits, channelCount}
+use Rattle.tags.specs.Kept.{areaSize}
+use Rattle.tags.specs.KeptLaws.{dictionary-kept, dimmer-tags-kept}
+use Rattle.receiver.specs.Message.{channelOf, routes, closes, modeOf, serviceOf, matchBits, dataStart, tagsOf}
+use Rattle.receiver.specs.Modes.{graphicMode, dimmerMode, knownMode, serviceFits}
 use Rattle.receiver.specs.Slices.{Slices, lengths}
 use Rattle.receiver.specs.Chunk.{chunkOf}
-use Rattle.receiver.specs.Meters.{Sums, overLimit}
-use Rattle.receiver.specs.Checks.{governs, routingNumber, routeNumber, numberOf}
+use Rattle.receiver.specs.Meters.{Sums}
+use Rattle.receiver.specs.Checks.{headerNumber}
 use Rattle.receiver.specs.Effects.{bareReply, slicesAfter}
-use Rattle.receiver.specs.Record.{configAt, channelsOf, configurationOf, sumsOf, consistentAt, consistent}
+use Rattle.receiver.specs.Record.{recordSize, areaPlace, configAt, areaAt, configurationOf, consistent}
 use Rattle.receiver.specs.LookBack.{Offer, offer, startingSums}
-use Rattle.receiver.specs.Contract.{Started, messageNumber, Answered}
-use Rattle.receiver.specs.Steps.{fresh, RoutedTo, Judgement, countsOf, noCounts}
-use Rattle.receiver.specs.declared.Config.{Config}
+use Rattle.receiver.specs.Contract.{outcome, startNumber, messageNumber, Answered}
+use Rattle.receiver.specs.Steps.{freshChannels, fresh, RoutedTo, Governed, countsWith}
 use Rattle.receiver.specs.declared.Receiver.{Receiver}
 use Rattle.receiver.specs.declared.Outcome.{Outcome}
 use Rattle.receiver.specs.declared.Reply.{Reply}
 use Rattle.receiver.specs.declared.route.Found.{Found}
-use Rattle.receiver.proofs.CheckLaws.{accepted-passed, channel-below}
-use Rattle.receiver.proofs.SettleLaws.{Sized, settled, consistent-each}
-use Rattle.receiver.proofs.FreshLaws.{channels-fresh, consistent-fresh}
-use Rattle.receiver.proofs.RouteLaws.{configured, found-unknown, found-misfit, found-graphic, found-dimming, found-void}
-use Rattle.receiver.proofs.JudgeLaws.{consistent-channels}
-use Rattle.receiver.proofs.AnswerLaws.{number-good, answered}
-use Rattle.receiver.proofs.LookBackLaws.{starting-within}
-use Rattle.receiver.proofs.Calls.{StartCall, SliceRefs, held, MessageCall}
+use Rattle.receiver.proofs.CheckLaws.{channel-below}
+use Rattle.receiver.proofs.PartLaws.{length-part}
+use Rattle.receiver.proofs.SettleLaws.{length-settled}
+use Rattle.receiver.proofs.FreshLaws.{length-fresh, started-fresh}
+use Rattle.receiver.proofs.RouteLaws.{routed, found-unknown, found-misfit, found-graphic, found-dimming, found-void}
+use Rattle.receiver.proofs.JudgeLaws.{governed-inconsistent, governed-header, governed-routed, governed-held}
+use Rattle.receiver.proofs.AnswerLaws.{Sized, answered}
+use Rattle.receiver.proofs.Calls.{StartCall, SliceRefs, held, RecordRefs, MessageCall}
 use Rattle.receiver.proofs.History.{Ran, RanInOrder, Demand3, demand-3}
 
 -- ---- a routing has a configuration
@@ -45,21 +44,36 @@ use Rattle.receiver.proofs.History.{Ran, RanInOrder, Demand3, demand-3}
 Octets : List ℕ → Type 0
 Octets l = (k : ℕ) → getD l k 0 < 256
 
-module _ (mode service match : ℕ) (tags : List ℕ) (octets : Octets tags) where
-  no-config : ℕ → Found
-  no-config n = record { number = n; config = configured mode service match tags emptyLayout emptyDimmer }
+-- an area that says nothing
+blank : List ℕ
+blank = replicate areaSize 0
 
-  routed-found : (f : Found) × RoutedTo mode service match tags f
-  unfolding no-config Octets
+length-blank : length blank ≡ areaSize
+unfolding blank
+length-blank = length-replicate {A = ℕ} areaSize 0
+
+-- what is found, with an area
+abbrev WithArea : (Found → List ℕ → Type 0) → Type 0
+WithArea P = (f : Found) × (area : List ℕ) × (length area ≡ areaSize) × P f area
+
+module _ (mode service match : ℕ) (tags : List ℕ) (octets : Octets tags) where
+  refused : ℕ → Found
+  refused n = routed mode service match tags blank n 0 0
+
+  routed-found : WithArea (RoutedTo mode service match tags)
+  unfolding refused Octets
   routed-found = by-tests (knownMode mode) (serviceFits mode service) (graphicMode mode) (dimmerMode mode) refl refl refl refl
     where
       by-tests : (a b g d : Bool) → knownMode mode ≡ a → serviceFits mode service ≡ b → graphicMode mode ≡ g → dimmerMode mode ≡ d
-          → (f : Found) × RoutedTo mode service match tags f
-      by-tests false b g d e h i j = (no-config 6, found-unknown mode service match tags (no-config 6) refl e)
-      by-tests true false g d e h i j = (no-config 7, found-misfit mode service match tags e (no-config 7) refl h)
-      by-tests true true true d e h i j = (_, found-graphic mode service match tags e h i)
-      by-tests true true false true e h i j = (_, found-dimming mode service match tags e h i j octets)
-      by-tests true true false false e h i j = (_, found-void mode service match tags e h i j)
+          → WithArea (RoutedTo mode service match tags)
+      by-tests false b g d e h i j = (refused 6, blank, length-blank, found-unknown mode service match tags blank (refused 6) refl e)
+      by-tests true false g d e h i j = (refused 7, blank, length-blank, found-misfit mode service match tags blank e (refused 7) refl h)
+      by-tests true true true d e h i j =
+          let kept = dictionary-kept mode tags blank length-blank in (_, _, kept .1, found-graphic mode service match tags _ e h i (kept .0))
+      by-tests true true false true e h i j =
+          let kept = dimmer-tags-kept tags octets blank length-blank in
+          (_, _, kept .1, found-dimming mode service match tags _ e h i j octets (kept .0))
+      by-tests true true false false e h i j = (_, blank, length-blank, found-void mode service match tags blank e h i j)
 
 -- the tags of a message are octets
 tags-octets : (m : List ℕ) → Octets m → Octets (tagsOf m)
@@ -71,20 +85,6 @@ tags-octets m octets k = go (decLt k (dataStart m - 12))
     go (no h) =
         rw (List·getD-eq-default (take (dataStart m - 12) (drop 12 m)) 0 {n = k} (rw length-take (omega arith))) (omega arith)
 
--- ---- the next receiver keeps its sizes
-
-sized-fresh : (s : Sums) → Sized (fresh s)
-sized-fresh s = record { states = refl; matches = refl; layouts = refl; dimmers = refl }
-
-sized-settled : (r : Receiver) → Sized r → (s : Sums) (c : ℕ) (k : Config) → Sized (settled r s c k)
-sized-settled r z s c k =
-    record {
-      states = length-set (r .states) c (k .state) ∙ z .states;
-      matches = length-set (r .matches) c (k .«match_bits») ∙ z .matches;
-      layouts = length-set (r .layouts) c (k .layout) ∙ z .layouts;
-      dimmers = length-set (r .dimmers) c (k .dimmer) ∙ z .dimmers;
-    }
-
 -- ---- every message has an answer
 
 -- an answer to message m by receiver r with these slices, and the next receiver's sizes
@@ -95,60 +95,60 @@ record Answer (r : Receiver) (m : List ℕ) (s : Slices) : Type 0 where
   sized : Sized (outcome .receiver)
 
 module _ (r : Receiver) (z : Sized r) (m : List ℕ) (octets : Octets m) (s : Slices) where
-  -- what governs an accepted message, as a configuration
-  governing-config : consistent r ≡ true → numberOf m (lengths s) (channelsOf r) (sumsOf r) ≡ 0
-      → (k : Config) × (configurationOf k ≡ governs m (channelsOf r)) × (consistentAt k ≡ true)
-  unfolding routeNumber governs
-  governing-config good accepted = by-routing (routes m) refl
+  -- something is found to govern it, or refuses it
+  governing-found : WithArea (Governed r m)
+  governing-found = by-checks (consistent r) (eqb (headerNumber m) 0) (routes m) refl refl refl
     where
-      by-routing : (b : Bool) → routes m ≡ b
-          → (k : Config) × (configurationOf k ≡ governs m (channelsOf r)) × (consistentAt k ≡ true)
-      by-routing true e =
-          let found = routed-found (modeOf m) (serviceOf m) (matchBits m) (tagsOf m) (tags-octets m octets) in
-          let number : routingNumber (modeOf m) (serviceOf m) (tagsOf m) ≡ 0 =
-          rw e at (accepted-passed m (lengths s) (channelsOf r) (sumsOf r) accepted .route) in
-          let passed = found .1 .number ∙ number in
-          (found .0 .config, rw e (found .1 .config passed), found .1 .sound passed)
-      by-routing false e = (
-        configAt r (channelOf m),
-        rw e,
-        consistent-each r channelCount (consistent-channels r good) (channelOf m) (channel-below m),
-      )
+      numbered : ℕ → Found
+      numbered n = record { number = n; config = configAt r (channelOf m) }
 
-  -- the judgement of the message
-  judgement : (f : Found) × Judgement r m (lengths s) f
-  judgement = by-number (eqb (messageNumber r m (lengths s)) 0) refl
-    where
-      by-number : (b : Bool) → eqb (messageNumber r m (lengths s)) 0 ≡ b → (f : Found) × Judgement r m (lengths s) f
-      by-number true e =
-          let none = eqb-true (messageNumber r m (lengths s)) 0 e in
-          let good = number-good r m (lengths s) 0 none refl in
-          let k = governing-config good (rw good at none) in
-          (record { number = messageNumber r m (lengths s); config = k .0 }, record { number = refl; config = λ q. k .1; sound = λ q. k .2 })
-      by-number false e =
-          let refused = eqb-false (messageNumber r m (lengths s)) 0 e in
-          (record { number = messageNumber r m (lengths s); config = configAt r (channelOf m) }, record { number = refl; config = λ q. absurd (refused q); sound = λ q. absurd (refused q) })
+      by-checks : (a b c : Bool) → consistent r ≡ a → eqb (headerNumber m) 0 ≡ b → routes m ≡ c → WithArea (Governed r m)
+      by-checks false b c e h q = (numbered 1, blank, length-blank, governed-inconsistent r m (numbered 1) blank refl e)
+      by-checks true false c e h q =
+          (numbered (headerNumber m), blank, length-blank, governed-header r m e (numbered (headerNumber m)) blank (rw h) refl)
+      by-checks true true true e h q =
+          let found = routed-found (modeOf m) (serviceOf m) (matchBits m) (tagsOf m) (tags-octets m octets) in
+          (found .0, found .1, found .2, governed-routed r m e (eqb-true (headerNumber m) 0 h) q (found .0) (found .1) (found .3))
+      by-checks true true false e h q = (
+        numbered 0,
+        areaAt r (channelOf m),
+        length-part areaSize (areaPlace (channelOf m)) (r .channels) (rw (z .channels) (let below = channel-below m in omega (arith, below))),
+        governed-held r m e (eqb-true (headerNumber m) 0 h) q,
+      )
 
   answer : Answer r m s
   answer =
-      let f = judgement .0 in
-      let d = cond (eqb (f .number) 0) (countsOf (chunkOf m) (configurationOf (f .config))) noCounts in
-      let s₁ = slicesAfter m (f .number) (configurationOf (f .config)) s in
+      let f = governing-found .0 in
+      let area = governing-found .1 in
+      let w = governing-found .2 in
+      let n = messageNumber r m (lengths s) in
+      let v = configurationOf (f .config) area in
+      let s₁ = slicesAfter m n v s in
       record {
         outcome = _;
         left = s₁;
-        meets = answered r z m s f (judgement .1) d s₁ (record { counts = refl; slices = refl });
-        sized = sized-settled r z _ (channelOf m) _;
+        meets = answered r z m s f area w (governing-found .3) n refl (countsWith n (chunkOf m) v) s₁ (record { counts = refl; slices = refl });
+        sized =
+            record {
+              channels = length-settled n (routes m) (closes m) (channelOf m) (f .config) area (r .channels) (channel-below m) w (z .channels);
+              meters = refl;
+            };
       }
 
 -- ---- every list has a run
 
--- a message with the slices lent for it, and whether it is offered from C
+-- how a call is made: in Rattle, from C, or from C on a record that the host lends
+pub data Way : Type 0 where
+  inRattle : Way
+  fromC : Way
+  inPlace : Way
+
+-- a message with the slices lent for it, and how it is offered
 pub record Call : Type 0 where
   pub octets : List ℕ
   pub below256 : (k : ℕ) → getD octets k 0 < 256
   pub lent : Slices
-  pub fromC : Bool
+  pub way : Way
 
 abbrev pub offerOf : Call → Offer
 offerOf c = offer (c .octets) (lengths (c .lent))
@@ -160,34 +160,39 @@ refTo x = record { ptr = (0, 0); name = 0; now = x }
 refsTo : Slices → SliceRefs
 refsTo s = record { rows = refTo (s .rows); levels = refTo (s .levels) }
 
+recordTo : Receiver → RecordRefs
+recordTo r = record { channels = refTo (r .channels); meters = refTo (r .meters) }
+
+sized-fresh : (s : Sums) → Sized (fresh s)
+sized-fresh s = record { channels = length-fresh; meters = refl }
+
 start-outcome : Sums → Outcome
-start-outcome s = record { receiver = fresh (startingSums s); reply = bareReply (refuse (overLimit s) 23) }
+start-outcome s = outcome (fresh (startingSums s)) (bareReply (startNumber s))
 
-start-meets : (s : Sums) → Started s (start-outcome s)
-unfolding start-outcome
-start-meets s =
-    record {
-      reply = refl;
-      meters = refl;
-      channels = channels-fresh (startingSums s);
-      sound = consistent-fresh (startingSums s) (starting-within s);
-    }
+start-call : (way : Way) (s : Sums) → StartCall s (start-outcome s)
+unfolding start-outcome refTo recordTo
+start-call inRattle s = StartCall.rattle tt (started-fresh s)
+start-call fromC s = StartCall.c tt (started-fresh s)
+start-call inPlace s =
+    let good = eq-eqb (length freshChannels) recordSize length-fresh in
+    StartCall.inPlace ([], ([], tt)) (recordTo (fresh s)) (recordTo (fresh (startingSums s))) (rw good)
+    (record { started = λ e. started-fresh s; refused = λ e. absurd (false≢true (sym e ∙ rw good)) })
+    refl
 
-start-call : (fromC : Bool) (s : Sums) → StartCall s (start-outcome s)
-start-call false s = StartCall.rattle tt (start-meets s)
-start-call true s = StartCall.c tt (start-meets s)
-
-message-call : (fromC : Bool) {r : Receiver} {octets : RefT (List ℕ)} {lent : SliceRefs} {o : Outcome} {left : SliceRefs}
+message-call : (way : Way) {r : Receiver} {octets : RefT (List ℕ)} {lent : SliceRefs} {o : Outcome} {left : SliceRefs}
     → Answered r (now octets) (held lent) o (held left) → MessageCall r octets lent o left
-message-call false meets = MessageCall.rattle ([], ([], ([], tt))) meets
-message-call true meets = MessageCall.c ([], ([], ([], tt))) meets
+unfolding refTo recordTo
+message-call inRattle meets = MessageCall.rattle ([], ([], ([], tt))) meets
+message-call fromC meets = MessageCall.c ([], ([], ([], tt))) meets
+message-call inPlace {r} {octets} {lent} {o} meets =
+    MessageCall.inPlace ([], ([], ([], ([], ([], tt))))) (recordTo r) (recordTo (o .receiver)) refl meets refl
 
-pub every-list-runs : (start : Sums) (fromC : Bool) (calls : List Call)
+pub every-list-runs : (start : Sums) (way : Way) (calls : List Call)
     → (replies : List Reply) × (r : Receiver) × Ran start (map offerOf calls) replies r × Sized r
 unfolding refTo refsTo start-outcome Octets
-every-list-runs start fromC [] =
-    ([], fresh (startingSums start), Ran.started (start-outcome start) (start-call fromC start), sized-fresh _)
-every-list-runs start fromC (c ∷ calls) = go (every-list-runs start fromC calls)
+every-list-runs start way [] =
+    ([], fresh (startingSums start), Ran.started (start-outcome start) (start-call way start), sized-fresh (startingSums start))
+every-list-runs start way (c ∷ calls) = go (every-list-runs start way calls)
   where
     go : ((replies : List Reply) × (r : Receiver) × Ran start (map offerOf calls) replies r × Sized r)
         → (replies : List Reply) × (r : Receiver) × Ran start (map offerOf (c ∷ calls)) replies r × Sized r
@@ -195,7 +200,7 @@ every-list-runs start fromC (c ∷ calls) = go (every-list-runs start fromC call
         let a = answer (run .1) (run .3) (c .octets) (c .below256) (c .lent) in (
           a .outcome .reply ∷ run .0,
           a .outcome .receiver,
-          Ran.offered (run .2) (refTo (c .octets)) (refsTo (c .lent)) (a .outcome) (refsTo (a .left)) (message-call (c .fromC) (a .meets)),
+          Ran.offered (run .2) (refTo (c .octets)) (refsTo (c .lent)) (a .outcome) (refsTo (a .left)) (message-call (c .way) (a .meets)),
           a .sized,
         )
 
@@ -205,12 +210,12 @@ map-reverseAux : (calls done : List Call) → map offerOf (reverseAux calls done
 map-reverseAux [] done = refl
 map-reverseAux (c ∷ calls) done = map-reverseAux calls (c ∷ done)
 
-pub demand-3-whole : (start : Sums) (fromC : Bool) (calls : List Call)
+pub demand-3-whole : (start : Sums) (way : Way) (calls : List Call)
     → ((replies : List Reply) × (r : Receiver) × RanInOrder start (map offerOf calls) replies r)
     × ((replies : List Reply) (r : Receiver) → RanInOrder start (map offerOf calls) replies r
     → Demand3 start (map offerOf calls) replies r)
-demand-3-whole start fromC calls =
-    let run = every-list-runs start fromC (reverse calls) in (
+demand-3-whole start way calls =
+    let run = every-list-runs start way (reverse calls) in (
       (
         reverse (run .0),
         run .1,

@@ -3,6 +3,7 @@ use Prim.Native.Nat.{ℕ}
 use mathlib.Core.Path.{_≡_}
 use mathlib.Core.Bool.{true, false, cond, _||_}
 use mathlib.Core.List.{List}
+use lib.ListN.{getD}
 use lib.Dec.{eqb}
 use Rattle.tags.specs.Choice.{refuse}
 use Rattle.receiver.specs.Governing.{closed, meant}
@@ -11,10 +12,15 @@ use Rattle.receiver.specs.Meters.{Sums, sums, overLimit}
 use Rattle.receiver.specs.Checks.{governs, numberOf}
 use Rattle.receiver.specs.Effects.{bareReply, replyOf, slicesAfter, sumsAfter, governingAfter}
 use Rattle.receiver.specs.LookBack.{startingSums}
-use Rattle.receiver.specs.Record.{channelsOf, sumsOf, consistent}
+use Rattle.receiver.specs.Record.{channelsOf, sumsOf, sized, consistent}
 use Rattle.receiver.specs.declared.Receiver.{Receiver}
 use Rattle.receiver.specs.declared.Outcome.{Outcome}
+use Rattle.receiver.specs.declared.Reply.{Reply}
 use Rattle.receiver.specs.declared.Readings.{Readings}
+
+-- A call in place leaves the next receiver where the host lent the one before, and hands back the reply: both together are its outcome.
+abbrev pub outcome : Receiver → Reply → Outcome
+outcome r reply = record { receiver = r; reply = reply }
 
 -- Start: "given a reading above it, replies 23 with a receiver whose readings are all 0. Start's reply is 0 in all but the number, and
 -- every channel is closed after it."
@@ -27,9 +33,17 @@ pub record Started (s : Sums) (o : Outcome) : Type 0 where
   pub channels : (c : ℕ) → channelsOf (o .receiver) c ≡ meant closed
   pub sound : consistent (o .receiver) ≡ true
 
+-- Start on a record that the host lends: the same, where its arrays have their lengths; else nothing is written, and the reply is 1.
+pub record StartedOn (s : Sums) (r : Receiver) (o : Outcome) : Type 0 where
+  pub started : sized r ≡ true → Started s o
+  pub refused : sized r ≡ false → o ≡ outcome r (bareReply 1)
+
 -- "A call gives a record's three readings as they stand; they are the meters of demand 3."
+abbrev pub readingsIn : List ℕ → Readings
+readingsIn meters = record { «lit_time» = getD meters 0 0; points = getD meters 1 0; «lit_points» = getD meters 2 0 }
+
 abbrev pub readingsOf : Receiver → Readings
-readingsOf r = record { «lit_time» = r .«lit_time»; points = r .points; «lit_points» = r .«lit_points» }
+readingsOf r = readingsIn (r .meters)
 
 -- the meters that readings show
 abbrev pub sumsIn : Readings → Sums

@@ -1,6 +1,6 @@
 -- The numbers of document 01's "One message", "Chunks", "Meters", "Checks, in order" and "Calls and layers" as tables: what the definitions
 -- give, and what the paper says. A definition and its code that were changed alike are refused here.
-use mathlib.Core.Path.{refl}
+use mathlib.Core.Path.{_≡_, refl}
 use Prim.Native.Nat.{ℕ, _+_, _*_}
 use mathlib.Core.List.{List, [], _∷_, _++_, map}
 use lib.ListN.{length, getD, replicate}
@@ -21,9 +21,11 @@ use Rattle.receiver.specs.Checks.{headerNumber, tagsNumber, routingNumbe
 use Rattle.receiver.specs.Effects.{replyOf, sumsAfter}
 use Rattle.receiver.specs.LookBack.{lookback, workedOut, judged, repliesBy}
 use Rattle.receiver.specs.Section.{sectionNumber, sectionStart, dataSection}
-use Rattle.receiver.specs.Record.{configurationOf, consistentAt, consistentUpTo, consistent}
+use Rattle.receiver.specs.Modes.{channelCount}
+use Rattle.receiver.specs.Record.{areaPlace, recordSize, configurationOf, consistentAt, consistentUpTo, consistent}
 use Rattle.receiver.specs.Contract.{startNumber, messageNumber}
-use Rattle.receiver.specs.Steps.{fresh}
+use Rattle.tags.specs.Kept.{sizesFit}
+use Rattle.receiver.specs.Steps.{fresh, freshChannels}
 use Rattle.receiver.specs.PinMessages.{numberAt, numberFor, numbersOf, metersAfter, repliesTo, octets, message, routing, plain, drawingTags, tagsFor, bringing, twoLit, flagged, bit}
 
 -- ---- the tables
@@ -146,5 +148,9 @@ meterTable =
     ∷ []
 
 pub meter-pins : Agrees meterTable
-unfolding meterTable placeOf colourOf litAmong rowsOf litIn definedGroup isSingle reservedSpace knownTag slotFor misplaced repeated tagNumber roleFor sampleWith allowedAfter read step walked incomplete endNumber dictionaryNumber dictionarySample overlapsAny badDimmerTag clashingTag dimmerTagNumber mappingWith readDimmer stepDimmer dimmed dimmerNumber dimmerMapping countSum levelsFit tagsOf dataOf meant headerNumber tagsNumber routingNumber routeNumber heldElsewhere holderNumber closedNumber governs pointsOf litPointsOf levelsOf matchNumber drawNumber dimNumber contentNumber addedBy meterNumber numberOf sumsAfter lookback workedOut judged configurationOf consistentAt consistentUpTo consistent
+unfolding meterTable placeOf colourOf litAmong rowsOf litIn definedGroup isSingle reservedSpace knownTag slotFor misplaced repeated tagNumber roleFor sampleWith allowedAfter read step walked incomplete endNumber dictionaryNumber dictionarySample overlapsAny badDimmerTag clashingTag dimmerTagNumber mappingWith readDimmer stepDimmer dimmed dimmerNumber dimmerMapping countSum levelsFit tagsOf dataOf meant headerNumber tagsNumber routingNumber routeNumber heldElsewhere holderNumber closedNumber governs pointsOf litPointsOf levelsOf matchNumber drawNumber dimNumber contentNumber addedBy meterNumber numberOf sumsAfter lookback workedOut judged configurationOf consistentAt consistentUpTo consistent freshChannels sizesFit
 meter-pins = refl
+
+-- the areas end where the octets of a record do
+pub record-ends : areaPlace channelCount ≡ recordSize
+record-ends = refl

@@ -1,27 +1,64 @@
 -- How the receiver's record is read, and the consistency rule of check 1 (document 01, "Checks, in order"). Only these readings of
--- a record show in later calls: what governs each channel, the three meters, and whether it is consistent.
-use Prim.Native.Nat.{ℕ, zero, suc, _-_}
+-- a record show in later calls: what governs each channel, the three meters, and whether it is consistent. A host keeps the record as a
+-- value or lends its two arrays; either way it is read like this.
+use Prim.Native.Nat.{ℕ, zero, suc, _+_, _-_, _*_}
 use mathlib.Core.Bool.{Bool, true, cond, not, _&&_}
-use lib.ListN.{getD}
-use lib.Dec.{eqb}
+use mathlib.Core.List.{List}
+use lib.ListN.{length, getD, take, drop}
+use lib.Dec.{ltb, eqb}
 use Rattle.tags.specs.Dictionary.{noSample}
 use Rattle.tags.specs.Dimmer.{noMapping}
-use Rattle.tags.specs.Layout.{sampleOf, mappingOf, blankLayout, blankDimmer, layoutSound, dimmerSound, hasOctets}
-use Rattle.receiver.specs.Modes.{graphicMode, dimmerMode, voidMode, channelCount}
-use Rattle.receiver.specs.Governing.{Configuration}
+use Rattle.tags.specs.Kept.{areaSize, sampleIn, mappingIn, sizesFit}
+use Rattle.receiver.specs.Modes.{graphicMode, dimmerMode, knownMode, channelCount}
+use Rattle.receiver.specs.Governing.{Configuration, closed, meant}
 use Rattle.receiver.specs.Meters.{Sums, sums, overLimit}
 use Rattle.receiver.specs.declared.Config.{Config}
 use Rattle.receiver.specs.declared.Receiver.{Receiver}
 
--- what the record holds of channel c
-abbrev pub configAt : Receiver → ℕ → Config
-configAt r c =
+-- the record of a host that lends its octets and its meters
+abbrev pub recordIn : List ℕ → List ℕ → Receiver
+recordIn channels meters = record { meters = meters; channels = channels }
+
+-- ---- where its octets stand: the states of all channels, their match bits, their two sizes, and then the areas, one a channel
+
+abbrev pub matchPlace : ℕ → ℕ
+matchPlace c = 64 + c
+
+abbrev pub sizePlace : ℕ → ℕ
+sizePlace c = 128 + c
+
+abbrev pub coloursPlace : ℕ → ℕ
+coloursPlace c = 192 + c
+
+abbrev pub areaPlace : ℕ → ℕ
+areaPlace c = 256 + c * areaSize
+
+abbrev pub recordSize : ℕ
+recordSize = 6_528
+
+abbrev pub meterCount : ℕ
+meterCount = 3
+
+-- what octets of a record hold of channel c: its state, match bits and sizes, and its area, which the tag layer reads
+abbrev pub configIn : List ℕ → ℕ → Config
+configIn channels c =
     record {
-      state = getD (r .states) c 0;
-      «match_bits» = getD (r .matches) c 0;
-      layout = getD (r .layouts) c blankLayout;
-      dimmer = getD (r .dimmers) c blankDimmer;
+      state = getD channels c 0;
+      «match_bits» = getD channels (matchPlace c) 0;
+      size = getD channels (sizePlace c) 0;
+      colours = getD channels (coloursPlace c) 0;
     }
+
+abbrev pub areaIn : List ℕ → ℕ → List ℕ
+areaIn channels c = take areaSize (drop (areaPlace c) channels)
+
+abbrev pub configAt : Receiver → ℕ → Config
+configAt r c = configIn (r .channels) c
+
+abbrev pub areaAt : Receiver → ℕ → List ℕ
+areaAt r c = areaIn (r .channels) c
+
+-- ---- what it means
 
 -- state 0 is closed, and a mode plus 1 is open in that mode; of a closed channel the mode is read as 0
 abbrev pub openState : ℕ → Bool
@@ -30,40 +67,39 @@ openState s = not (eqb s 0)
 abbrev pub modeIn : ℕ → ℕ
 modeIn s = s - 1
 
--- what it means: the layout counts in modes 1 and 2, the mapping in 4 and 6, and nothing of a closed channel
-unfoldable pub configurationOf : Config → Configuration
-configurationOf k =
+-- the area is a layout in modes 1 and 2 and a mapping in 4 and 6; nothing of a closed channel counts
+unfoldable pub configurationOf : Config → List ℕ → Configuration
+configurationOf k area =
     record {
       isOpen = openState (k .state);
       mode = modeIn (k .state);
       match = cond (openState (k .state)) (k .«match_bits») 0;
-      sample = cond (graphicMode (modeIn (k .state))) (sampleOf (k .layout)) noSample;
-      mapping = cond (dimmerMode (modeIn (k .state))) (mappingOf (k .dimmer)) noMapping;
+      sample = cond (graphicMode (modeIn (k .state))) (sampleIn (k .size) (k .colours) area) noSample;
+      mapping = cond (dimmerMode (modeIn (k .state))) (mappingIn (k .size) area) noMapping;
     }
 
--- what governs each channel by the record
+-- what governs each channel by the record; there are no others, and so they are closed
 abbrev pub channelsOf : Receiver → ℕ → Configuration
-channelsOf r c = configurationOf (configAt r c)
+channelsOf r c = cond (ltb c channelCount) (configurationOf (configAt r c) (areaAt r c)) (meant closed)
 
 -- the three meters
 abbrev pub sumsOf : Receiver → Sums
-sumsOf r = sums (r .«lit_time») (r .points) (r .«lit_points»)
+sumsOf r = sums (getD (r .meters) 0 0) (getD (r .meters) 1 0) (getD (r .meters) 2 0)
 
 -- ---- check 1: the consistency rule
 
--- A channel is consistent by what is read of it: one open in mode 1 or 2 has samples of at least one octet and a sound layout, one open
--- in mode 4 or 6 a sound mapping (the tag layer's tests: counts within their arrays, bases and counts of levels in range), and every
--- other is closed or open in mode 0.
+-- A channel is consistent where it is closed or open in a mode that there is, and its sizes are within its area (the tag layer's test).
 unfoldable pub consistentAt : Config → Bool
-consistentAt k =
-    cond (graphicMode (modeIn (k .state)))
-    (hasOctets (k .layout) && layoutSound (k .layout))
-    (cond (dimmerMode (modeIn (k .state))) (dimmerSound (k .dimmer)) (voidMode (modeIn (k .state))))
+consistentAt k = knownMode (modeIn (k .state)) && sizesFit (k .size) (k .colours)
 
-unfoldable pub consistentUpTo : Receiver → ℕ → Bool
-consistentUpTo r zero = true
-consistentUpTo r (suc n) = consistentUpTo r n && consistentAt (configAt r n)
+unfoldable pub consistentUpTo : List ℕ → ℕ → Bool
+consistentUpTo channels zero = true
+consistentUpTo channels (suc n) = consistentUpTo channels n && consistentAt (configIn channels n)
 
--- the meters are within their limit and each channel is consistent
+-- both arrays have their lengths; one that is kept as a value always does
+abbrev pub sized : Receiver → Bool
+sized r = eqb (length (r .channels)) recordSize && eqb (length (r .meters)) meterCount
+
+-- it has its lengths, the meters are within their limit and each channel is consistent
 unfoldable pub consistent : Receiver → Bool
-consistent r = not (overLimit (sumsOf r)) && consistentUpTo r channelCount
+consistent r = sized r && (not (overLimit (sumsOf r)) && consistentUpTo (r .channels) channelCount)

@@ -1,74 +1,66 @@
 -- What the steps of a call promise to each other; the calls of the receiver rest on them, and no host reads them.
-use Prim.Native.Nat.{ℕ, zero, suc}
+use Prim.Native.Nat.{ℕ, zero, suc, _+_}
 use mathlib.Core.Path.{_≡_}
 use mathlib.Core.Bool.{Bool, true, false, cond, not, _&&_, _||_}
-use mathlib.Core.List.{List}
-use lib.ListN.{getD, replicate}
+use mathlib.Core.List.{List, [], _∷_}
+use lib.ListN.{getD, set, replicate}
 use lib.Dec.{eqb}
-use Rattle.tags.specs.Layout.{emptyLayout, emptyDimmer}
-use Rattle.receiver.specs.Message.{channelOf}
-use Rattle.receiver.specs.Modes.{channelCount}
+use Rattle.tags.specs.Choice.{first}
+use Rattle.tags.specs.Kept.{octetsPut}
 use Rattle.receiver.specs.Governing.{Configuration, routedTo, meant}
-use Rattle.receiver.specs.Slices.{Slices, Lent}
+use Rattle.receiver.specs.Slices.{Slices}
 use Rattle.receiver.specs.Chunk.{Chunk, chunkOf, pointsOf, litPointsOf, levelsOf}
 use Rattle.receiver.specs.Meters.{Sums, addedBy}
-use Rattle.receiver.specs.Checks.{routingNumber, routeNumber, governs}
+use Rattle.receiver.specs.Checks.{headerNumber, routingNumber, routeNumber, governs}
 use Rattle.receiver.specs.Effects.{slicesAfter}
-use Rattle.receiver.specs.Record.{openState, modeIn, configAt, configurationOf, consistentAt, channelsOf, consistent}
-use Rattle.receiver.specs.Contract.{messageNumber, readingsOf}
+use Rattle.receiver.specs.Record.{recordIn, matchPlace, sizePlace, coloursPlace, areaPlace, recordSize, openState, modeIn, configurationOf, channelsOf, consistentAt, consistent}
 use Rattle.receiver.specs.declared.Config.{Config}
 use Rattle.receiver.specs.declared.Receiver.{Receiver}
 use Rattle.receiver.specs.declared.Readings.{Readings}
 use Rattle.receiver.specs.declared.route.Found.{Found}
 use Rattle.receiver.specs.declared.draw.Counts.{Counts}
 
+-- ---- the meters as an array
+
+abbrev pub metersBy : Readings → List ℕ
+metersBy q = q .«lit_time» ∷ q .points ∷ q .«lit_points» ∷ []
+
 -- ---- start
 
 -- a receiver newly started: every channel closed, the meters as given
+unfoldable pub freshChannels : List ℕ
+freshChannels = replicate recordSize 0
+
 abbrev pub fresh : Sums → Receiver
-fresh s =
-    record {
-      states = replicate channelCount 0;
-      matches = replicate channelCount 0;
-      layouts = replicate channelCount emptyLayout;
-      dimmers = replicate channelCount emptyDimmer;
-      «lit_time» = s .litTime;
-      points = s .points;
-      «lit_points» = s .litPoints;
-    }
+fresh s = recordIn freshChannels (s .litTime ∷ s .points ∷ s .litPoints ∷ [])
 
 -- ---- what governs a message
 
--- Routing: the number of checks 6 to 14, and where it is 0 a sound configuration that means what the routing brings
-pub record RoutedTo (mode service match : ℕ) (tags : List ℕ) (f : Found) : Type 0 where
+-- Routing: the number of checks 6 to 14, and where it is 0 a sound configuration that with its area means what the routing brings
+pub record RoutedTo (mode service match : ℕ) (tags : List ℕ) (f : Found) (area : List ℕ) : Type 0 where
   pub number : f .number ≡ routingNumber mode service tags
-  pub config : f .number ≡ 0 → configurationOf (f .config) ≡ meant (routedTo mode service match tags)
+  pub config : f .number ≡ 0 → configurationOf (f .config) area ≡ meant (routedTo mode service match tags)
   pub sound : f .number ≡ 0 → consistentAt (f .config) ≡ true
 
--- check 15, read off the states: one of the first n, other than that of channel c, is open in the mode
+-- check 15, read off the octets of the record: one of the first n channels, other than c, is open in the mode
 unfoldable pub heldStates : List ℕ → ℕ → ℕ → ℕ → Bool
-heldStates states mode c zero = false
-heldStates states mode c (suc n) =
-    heldStates states mode c n
-    || not (eqb n c) && (openState (getD states n 0) && eqb (modeIn (getD states n 0)) mode)
+heldStates channels mode c zero = false
+heldStates channels mode c (suc n) =
+    heldStates channels mode c n
+    || not (eqb n c) && (openState (getD channels n 0) && eqb (modeIn (getD channels n 0)) mode)
 
--- What judging message m reads of record r, by value: whether it is consistent, the states, what the message's channel holds, the meters
-pub record Shown (r : Receiver) (m : List ℕ) (good : Bool) (all : List ℕ) (held : Config) (readings : Readings) : Type 0 where
-  pub consistency : good ≡ consistent r
-  pub states : all ≡ r .states
-  pub channel : held ≡ configAt r (channelOf m)
-  pub meters : readings ≡ readingsOf r
+-- the record that a step is shown: its octets, and the meters by value
+abbrev pub shownBy : List ℕ → Readings → Receiver
+shownBy channels q = recordIn channels (metersBy q)
 
--- What governs the message: the number of checks 6 to 14, and where it is 0 the configuration that governs
-pub record Governed (r : Receiver) (m : List ℕ) (f : Found) : Type 0 where
-  pub number : f .number ≡ routeNumber m
-  pub config : f .number ≡ 0 → configurationOf (f .config) ≡ governs m (channelsOf r)
-  pub sound : f .number ≡ 0 → consistent r ≡ true → consistentAt (f .config) ≡ true
+-- checks 1 to 14
+abbrev pub governingNumber : Receiver → List ℕ → ℕ
+governingNumber r m = cond (consistent r) (first (headerNumber m) (routeNumber m)) 1
 
--- The judgement: the message's number, and where it is accepted the configuration that governs
-pub record Judgement (r : Receiver) (m : List ℕ) (lent : Lent) (f : Found) : Type 0 where
-  pub number : f .number ≡ messageNumber r m lent
-  pub config : f .number ≡ 0 → configurationOf (f .config) ≡ governs m (channelsOf r)
+-- What governs the message: the number of checks 1 to 14, and where it is 0 the configuration that governs, with its area
+pub record Governed (r : Receiver) (m : List ℕ) (f : Found) (area : List ℕ) : Type 0 where
+  pub number : f .number ≡ governingNumber r m
+  pub config : f .number ≡ 0 → configurationOf (f .config) area ≡ governs m (channelsOf r)
   pub sound : f .number ≡ 0 → consistentAt (f .config) ≡ true
 
 -- ---- what is drawn
@@ -101,11 +93,26 @@ pub record WrittenBy (n : ℕ) (m : List ℕ) (v : Configuration) (s₀ : Slices
 
 -- ---- what is kept
 
--- a channel's configuration with the state set to closed
-abbrev pub shut : Config → Config
-shut k = record { state = 0; «match_bits» = k .«match_bits»; layout = k .layout; dimmer = k .dimmer }
+-- the octets of a record in which channel c holds k and the area
+abbrev pub storedIn : List ℕ → ℕ → Config → List ℕ → List ℕ
+storedIn channels c k area =
+    octetsPut
+    (set (set (set (set channels c (k .state)) (matchPlace c) (k .«match_bits»)) (sizePlace c) (k .size)) (coloursPlace c) (k .colours))
+    (areaPlace c) area
 
--- what the channel of a message answered with n holds after it: what governed an accepted one, or what it held; closed by Close and
--- by 19
-abbrev pub keptConfig : ℕ → Bool → Config → Config → Config
-keptConfig n closing held k = cond (eqb n 0) (cond closing (shut k) k) (cond (eqb n 19) (shut held) held)
+-- a configuration with its channel closed by Close
+abbrev pub closedBy : Bool → Config → Config
+closedBy closing k =
+    record { state = cond closing 0 (k .state); «match_bits» = k .«match_bits»; size = k .size; colours = k .colours }
+
+-- The octets of a record after a message on channel c, answered with n: an accepted Routing stores what governs it, Close and 19 close
+-- the channel, and nothing else is written.
+unfoldable pub settledIn : ℕ → Bool → Bool → ℕ → Config → List ℕ → List ℕ → List ℕ
+settledIn n routing closing c k area channels =
+    cond (eqb n 0 && routing)
+    (storedIn channels c (closedBy closing k) area)
+    (cond (eqb n 19 || eqb n 0 && closing) (set channels c 0) channels)
+
+-- the meters after it, from what they were
+abbrev pub risenFrom : Readings → Counts → List ℕ
+risenFrom q d = (q .«lit_time» + d .«lit_time») ∷ (q .points + d .points) ∷ (q .«lit_points» + d .«lit_points») ∷ []

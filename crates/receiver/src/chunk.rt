@@ -5,14 +5,16 @@ use super::modes::dimmer_mode;
 use super::modes::mode_in;
 use super::modes::void_mode;
 use tags::Dimmer;
-use tags::Layout;
+use tags::kept::AREA;
+use tags::kept::dimmer_in;
 use tags::limits::PLACE_COUNT;
 use tags::limits::ROW;
 ghost use mathlib.Core.Path.{_≡_};
+ghost use mathlib.Core.List.{List};
 ghost use Prim.Native.Nat.{ℕ, _≤_};
 ghost use lib.ListN.{length};
-ghost use Rattle.tags.specs.Rows.{sampleOctets};
-ghost use Rattle.tags.specs.Layout.{sampleOf, mappingOf};
+ghost use Rattle.tags.specs.Layout.{mappingOf};
+ghost use Rattle.tags.specs.Kept.{areaSize, octetsOf};
 ghost use Rattle.receiver.specs.Slices.{lent};
 ghost use Rattle.receiver.specs.Chunk.{chunk, knownType, isDrawing, isDimming, body};
 ghost use Rattle.receiver.specs.Checks.{wrongData, matchNumber, drawNumber, dimNumber, contentNumber};
@@ -37,7 +39,7 @@ pub(crate) fn known_type(chunk_type: u8) -> bool
 
 // A wave in mode 1 or a frame in mode 2.
 pub(crate) fn is_drawing(chunk_type: u8, k: Config) -> bool
-    ensures { λ r. ⌜ r ≡ isDrawing «chunk_type» (configurationOf k) ⌝ }
+    ensures { λ r. ⌜ ((area : List ℕ) → r ≡ isDrawing «chunk_type» (configurationOf k area)) ⌝ }
 {
     let mode = mode_in(k.state);
     ((chunk_type == WAVE) & (mode == 1)) | ((chunk_type == FRAME) & (mode == 2))
@@ -45,7 +47,7 @@ pub(crate) fn is_drawing(chunk_type: u8, k: Config) -> bool
 
 // Dimmer levels in mode 4 or 6.
 pub(crate) fn is_dimming(chunk_type: u8, k: Config) -> bool
-    ensures { λ r. ⌜ r ≡ isDimming «chunk_type» (configurationOf k) ⌝ }
+    ensures { λ r. ⌜ ((area : List ℕ) → r ≡ isDimming «chunk_type» (configurationOf k area)) ⌝ }
 {
     let mode = mode_in(k.state);
     (chunk_type == LEVELS) & dimmer_mode(mode)
@@ -74,7 +76,7 @@ fn wrong_data(chunk_type: u8, octets: usize) -> bool
 
 // Checks 17 to 19.
 pub(crate) fn match_number(chunk_type: u8, k: Config, octets: &[u8]) -> u8
-    ensures { λ r. ⌜ r ≡ matchNumber (chunk «chunk_type» (now (octets .entry))) (configurationOf k) ⌝ }
+    ensures { λ r. ⌜ ((area : List ℕ) → r ≡ matchNumber (chunk «chunk_type» (now (octets .entry))) (configurationOf k area)) ⌝ }
 {
     let mode = mode_in(k.state);
     let ignored = void_mode(mode);
@@ -99,12 +101,12 @@ pub(crate) fn match_number(chunk_type: u8, k: Config, octets: &[u8]) -> u8
 }
 
 // Checks 20 and 22 for a wave or frame with so many octets of samples.
-fn draw_number(chunk_type: u8, layout: Layout, octets: usize, rows: usize) -> u8
+fn draw_number(chunk_type: u8, size: u8, octets: usize, rows: usize) -> u8
     requires { ⌜ octets ≤ mostOctets ⌝ }
-    ensures { λ r. ⌜ r ≡ drawNumber «chunk_type» (sampleOctets (sampleOf layout)) octets rows ⌝ }
+    ensures { λ r. ⌜ r ≡ drawNumber «chunk_type» (octetsOf size) octets rows ⌝ }
 {
-    let samples = tags::rows::samples(layout, octets);
-    let whole = tags::rows::whole(layout, octets);
+    let samples = tags::rows::samples(size, octets);
+    let whole = tags::rows::whole(size, octets);
     let wrong = !whole
         | ((chunk_type == WAVE) & (samples < 20))
         | ((chunk_type == FRAME) & (samples == 1));
@@ -138,22 +140,23 @@ fn dim_number(dimmer: Dimmer, octets: usize, levels: usize) -> u8
 pub(crate) fn content_number(
     chunk_type: u8,
     k: Config,
+    area: &[u8; AREA],
     octets: &[u8],
     rows: usize,
     levels: usize,
 ) -> u8
+    requires { ⌜ length (now area) ≡ areaSize ⌝ }
     requires { ⌜ length (now octets) ≤ mostOctets ⌝ }
-    ensures { λ r. ⌜ r ≡ contentNumber (chunk «chunk_type» (now (octets .entry))) (configurationOf k) (lent rows levels) ⌝ }
+    ensures { λ r. ⌜ r ≡ contentNumber (chunk «chunk_type» (now (octets .entry))) (configurationOf k (now (area .entry))) (lent rows levels) ⌝ }
 {
     let content = body_of(octets);
     let draws = is_drawing(chunk_type, k);
     if draws {
-        let layout = k.layout;
-        return draw_number(chunk_type, layout, content.len(), rows);
+        return draw_number(chunk_type, k.size, content.len(), rows);
     }
     let dims = is_dimming(chunk_type, k);
     if dims {
-        let dimmer = k.dimmer;
+        let dimmer = dimmer_in(k.size, area);
         return dim_number(dimmer, content.len(), levels);
     }
     0

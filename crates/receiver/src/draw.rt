@@ -7,10 +7,14 @@ use super::chunk::is_drawing;
 use super::header::octet;
 use super::modes::mode_in;
 use super::record::over_limit;
+use tags::kept::AREA;
+use tags::kept::dimmer_in;
+use tags::kept::layout_in;
 ghost use mathlib.Core.Path.{_≡_};
 ghost use mathlib.Core.Bool.{false, cond};
 ghost use Prim.Native.Nat.{ℕ, _≤_, _<_, _^_};
 ghost use lib.ListN.{length};
+ghost use Rattle.tags.specs.Kept.{areaSize};
 ghost use Rattle.receiver.specs.Slices.{slices, lengths};
 ghost use Rattle.receiver.specs.Chunk.{chunk, duration};
 ghost use Rattle.receiver.specs.Meters.{overLimit};
@@ -46,18 +50,24 @@ fn counted_time(lit: bool, time: u64) -> u64
 }
 
 // Check 23. The lit points are counted only where a meter is so near its limit that they decide.
-pub(crate) fn meter_number(chunk_type: u8, k: Config, octets: &[u8], meters: Readings) -> u8
+pub(crate) fn meter_number(
+    chunk_type: u8,
+    k: Config,
+    area: &[u8; AREA],
+    octets: &[u8],
+    meters: Readings,
+) -> u8
+    requires { ⌜ length (now area) ≡ areaSize ⌝ }
     requires { ⌜ length (now octets) ≤ mostOctets ⌝ }
     requires { ⌜ overLimit (sumsIn meters) ≡ false ⌝ }
-    ensures { λ r. ⌜ r ≡ meterNumber (chunk «chunk_type» (now (octets .entry))) (configurationOf k) (sumsIn meters) ⌝ }
+    ensures { λ r. ⌜ r ≡ meterNumber (chunk «chunk_type» (now (octets .entry))) (configurationOf k (now (area .entry))) (sumsIn meters) ⌝ }
 {
     let draws = is_drawing(chunk_type, k);
     if !draws {
         return 0;
     }
     let content = body_of(octets);
-    let layout = k.layout;
-    let samples = tags::rows::samples(layout, content.len());
+    let samples = tags::rows::samples(k.size, content.len());
     let count = tags::rows::points(samples) as u64;
     let time = duration_of(octets);
     let near = over_limit(
@@ -68,6 +78,7 @@ pub(crate) fn meter_number(chunk_type: u8, k: Config, octets: &[u8], meters: Rea
     if !near {
         return 0;
     }
+    let layout = layout_in(k.size, k.colours, area);
     let shown = tags::rows::lit(layout, content) as u64;
     let added = counted_time(shown != 0, time);
     let over = over_limit(
@@ -85,20 +96,22 @@ pub(crate) fn meter_number(chunk_type: u8, k: Config, octets: &[u8], meters: Rea
 pub(crate) fn draw(
     chunk_type: u8,
     k: Config,
+    area: &[u8; AREA],
     octets: &[u8],
     rows: &mut [i32],
     levels: &mut [u8],
 ) -> Counts
+    requires { ⌜ length (now area) ≡ areaSize ⌝ }
     requires { ⌜ length (now octets) ≤ mostOctets ⌝ }
-    requires { ⌜ contentNumber (chunk «chunk_type» (now octets)) (configurationOf k) (lengths (slices (now rows) (now levels))) ≡ 0 ⌝ }
-    ensures { λ d. ⌜ d ≡ countsOf (chunk «chunk_type» (now (octets .entry))) (configurationOf k) ⌝ }
-    ensures { λ d. ⌜ slices (now (rows .exit)) (now (levels .exit)) ≡ drawn (chunk «chunk_type» (now (octets .entry))) (configurationOf k) (slices (now (rows .entry)) (now (levels .entry))) ⌝ }
+    requires { ⌜ contentNumber (chunk «chunk_type» (now octets)) (configurationOf k (now area)) (lengths (slices (now rows) (now levels))) ≡ 0 ⌝ }
+    ensures { λ d. ⌜ d ≡ countsOf (chunk «chunk_type» (now (octets .entry))) (configurationOf k (now (area .entry))) ⌝ }
+    ensures { λ d. ⌜ slices (now (rows .exit)) (now (levels .exit)) ≡ drawn (chunk «chunk_type» (now (octets .entry))) (configurationOf k (now (area .entry))) (slices (now (rows .entry)) (now (levels .entry))) ⌝ }
 {
     let content = body_of(octets);
     let draws = is_drawing(chunk_type, k);
     if draws {
-        let layout = k.layout;
-        let samples = tags::rows::samples(layout, content.len());
+        let layout = layout_in(k.size, k.colours, area);
+        let samples = tags::rows::samples(k.size, content.len());
         let points = tags::rows::points(samples);
         let lit = tags::rows::draw(layout, content, rows);
         let shines = lit != 0;
@@ -112,7 +125,7 @@ pub(crate) fn draw(
     }
     let dims = is_dimming(chunk_type, k);
     if dims {
-        let dimmer = k.dimmer;
+        let dimmer = dimmer_in(k.size, area);
         let written = tags::levels::write(dimmer, mode_in(k.state), content, levels);
         return Counts {
             lit_time: 0,

@@ -69,6 +69,15 @@ fn start_of(configured: bool, routing: bool, words: u8) -> usize
     8
 }
 
+// The same by the octets of the message.
+pub(crate) fn data_start(m: &[u8]) -> usize
+    ensures { λ r. ⌜ r ≡ dataStart (now (m .entry)) ⌝ }
+{
+    let configured = octet(m, 2) / 64 % 2 == 1;
+    let routing = configured & (octet(m, 9) % 2 == 1);
+    start_of(configured, routing, octet(m, 8))
+}
+
 // The header whole.
 pub(crate) fn read(m: &[u8]) -> Header
     ensures { λ r. ⌜ r ≡ headerOf (now (m .entry)) ⌝ }
@@ -103,7 +112,8 @@ pub(crate) fn wrong_length(m: &[u8]) -> bool
 }
 
 // Checks 2 to 5: the number that refuses the length or the header of the message, or 0.
-pub(crate) fn header_number(m: &[u8]) -> u8
+pub(crate) fn header_number(m: &[u8], h: Header) -> u8
+    requires { ⌜ h ≡ headerOf (now m) ⌝ }
     ensures { λ r. ⌜ r ≡ headerNumber (now (m .entry)) ⌝ }
 {
     let n = m.len();
@@ -119,7 +129,6 @@ pub(crate) fn header_number(m: &[u8]) -> u8
     if !known {
         return 4;
     }
-    let h = read(m);
     let short = n < h.start;
     if short {
         return 5;

@@ -1,5 +1,5 @@
 // The receiver as a C host calls it: structs by value, slices as a pointer and a length. Each call is the receiver's own, with its whole
-// promise; the host owes valid pointers and lengths and nothing else.
+// promise; the host owes valid pointers and lengths and nothing else. The calls on a record that the host lends stand in place.rt.
 use super::Outcome;
 use super::Readings;
 use super::Receiver;

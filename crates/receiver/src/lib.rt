@@ -1,17 +1,19 @@
 // The channel receiver: messages in, replies, rows, levels and three meters out. It stands on the tag layer's promises.
+mod channels;
 mod chunk;
 mod draw;
 mod header;
 pub mod host;
 mod message;
 mod modes;
+pub mod place;
 mod record;
 mod route;
 pub mod section;
 pub mod stream;
 
-use tags::Dimmer;
-use tags::Layout;
+use record::METERS;
+use record::RECORD;
 
 // A channel's identifier, six bits of a message. A type of its own, so that no service identifier is taken for one.
 #[repr(C)]
@@ -34,25 +36,21 @@ pub struct Reply {
     pub levels: u32,
 }
 
-// What governs one channel, as the record holds it: state 0 is closed, and a mode plus 1 is open in that mode.
-#[repr(C)]
+// What the record holds of one channel besides its area: state 0 is closed, and a mode plus 1 is open in that mode; the sizes are the tag
+// layer's. The area stands by itself, because a struct that holds it is copied from function to function.
 pub struct Config {
     pub state: u8,
     pub match_bits: u8,
-    pub layout: Layout,
-    pub dimmer: Dimmer,
+    pub size: u8,
+    pub colours: u8,
 }
 
-// The receiver: 64 channels, a field at a time, and the three meters. A C host can hold it; nothing else is stored.
+// The receiver: three meters, and the octets of 64 channels as channels.rt has their places. A C host can hold it, as a value or to lend
+// its two arrays; nothing else is stored.
 #[repr(C)]
 pub struct Receiver {
-    pub states: [u8; 64],
-    pub matches: [u8; 64],
-    pub layouts: [Layout; 64],
-    pub dimmers: [Dimmer; 64],
-    pub lit_time: u64,
-    pub points: u64,
-    pub lit_points: u64,
+    pub meters: [u64; METERS],
+    pub channels: [u8; RECORD],
 }
 
 // What a call of start or message hands back: the next receiver beside the reply.

@@ -1,16 +1,18 @@
-// One message: judged by every check in order, then written and settled. The judging changes nothing; what it accepts is applied.
+// One message: judged by every check in order, then written and settled. The judging changes nothing; what it accepts is applied. The
+// work is done on a record that is lent, by a host or by the call that takes one as a value.
 use super::Config;
 use super::Outcome;
 use super::Readings;
 use super::Receiver;
 use super::Reply;
+use super::channels::area_at;
+use super::channels::config_at;
 use super::chunk::content_number;
 use super::chunk::match_number;
 use super::draw::Counts;
 use super::draw::draw;
 use super::draw::meter_number;
 use super::draw::no_counts;
-use super::header;
 use super::header::Header;
 use super::header::data_of;
 use super::header::header_number;
@@ -18,120 +20,145 @@ use super::modes::CLOSED;
 use super::modes::exclusive_mode;
 use super::modes::graphic_mode;
 use super::modes::mode_in;
+use super::place::mewkoast_offer_on;
+use super::record::METERS;
+use super::record::RECORD;
 use super::record::bare_reply;
 use super::record::held_elsewhere;
-use super::record::over_limit;
 use super::record::readings_of;
-use super::record::sound_channel;
+use super::record::set_meters;
+use super::record::sound;
 use super::route::Found;
 use super::route::none_found;
 use super::route::route;
-use tags::Dimmer;
-use tags::Layout;
+use tags::kept::AREA;
+use tags::kept::space_in;
 ghost use mathlib.Core.Path.{_≡_};
-ghost use mathlib.Core.Bool.{true, false, _&&_};
+ghost use mathlib.Core.Bool.{_&&_};
 ghost use mathlib.Core.List.{List};
-ghost use Prim.Native.Nat.{ℕ};
-ghost use Rattle.receiver.specs.Message.{channelOf};
-ghost use Rattle.receiver.specs.Modes.{exclusiveMode};
+ghost use Prim.Native.Nat.{ℕ, _+_, _<_, _^_};
+ghost use lib.ListN.{length};
+ghost use Rattle.tags.specs.Kept.{areaSize};
+ghost use Rattle.receiver.specs.Modes.{exclusiveMode, channelCount};
 ghost use Rattle.receiver.specs.Slices.{slices, lent, lengths};
 ghost use Rattle.receiver.specs.Chunk.{chunkOf};
-ghost use Rattle.receiver.specs.Meters.{overLimit};
 ghost use Rattle.receiver.specs.Checks.{headerNumber, contentNumber};
 ghost use Rattle.receiver.specs.Header.{headerOf};
 ghost use Rattle.receiver.specs.Effects.{replyOf};
-ghost use Rattle.receiver.specs.Record.{configAt, configurationOf};
-ghost use Rattle.receiver.specs.Contract.{sumsIn, Answered};
-ghost use Rattle.receiver.specs.Steps.{countsWith, WrittenBy, Shown, Governed, Judgement, shut, keptConfig, heldStates};
-ghost use Rattle.receiver.specs.declared.Receiver.{Receiver};
+ghost use Rattle.receiver.specs.Record.{recordSize, meterCount, recordIn, configurationOf};
+ghost use Rattle.receiver.specs.Contract.{outcome, messageNumber, Answered};
+ghost use Rattle.receiver.specs.Steps.{countsWith, WrittenBy, risenFrom, shownBy, Governed, heldStates};
 
-// Checks 6 to 14, and what governs the message: what it brings itself, or what its channel holds.
-fn governing(held: Config, m: &[u8], h: Header) -> Found
+// ---- judging
+
+// Checks 1 to 14, and what governs the message: what it brings itself, or what its channel holds, with its area.
+pub(crate) fn governing(
+    channels: &[u8],
+    meters: Readings,
+    m: &[u8],
+    h: Header,
+    area: &mut [u8; AREA],
+) -> Found
+    requires { ⌜ (length (now channels) ≡ recordSize) × (length (now area) ≡ areaSize) ⌝ }
     requires { ⌜ h ≡ headerOf (now m) ⌝ }
-    requires { ⌜ headerNumber (now m) ≡ 0 ⌝ }
-    ensures { λ f. ⌜ ((r : Receiver) → held ≡ configAt r (channelOf (now (m .entry))) → Governed r (now (m .entry)) f) ⌝ }
+    ensures { λ f. ⌜ Governed (shownBy (now (channels .entry)) meters) (now (m .entry)) f (now (area .exit)) ⌝ }
+    ensures { λ f. ⌜ length (now (area .exit)) ≡ areaSize ⌝ }
 {
+    let good = sound(channels, meters);
+    if !good {
+        return none_found(1);
+    }
+    let header = header_number(m, h);
+    let malformed = header != 0;
+    if malformed {
+        return none_found(header);
+    }
     if h.routing {
         let start = h.start;
         let service = h.service;
-        return route(h.mode, service, h.match_bits, &m[12..start]);
+        return route(h.mode, service, h.match_bits, &m[12..start], area);
     }
+    let at = h.channel.0 as usize;
+    area_at(channels, at, area);
     Found {
         number: 0,
-        config: held,
+        config: config_at(channels, at),
     }
 }
 
 // Check 15: another channel has the mode that the message routes its own to.
-fn has_holder(states: [u8; 64], h: Header) -> bool
-    ensures { λ r. ⌜ r ≡ (h .routing && (exclusiveMode (h .mode) && heldStates states (h .mode) (h .channel .0) 64)) ⌝ }
+fn has_holder(channels: &[u8], h: Header) -> bool
+    requires { ⌜ length (now channels) ≡ recordSize ⌝ }
+    ensures { λ r. ⌜ r ≡ (h .routing && (exclusiveMode (h .mode) && heldStates (now (channels .entry)) (h .mode) (h .channel .0) channelCount)) ⌝ }
 {
     let asked = h.routing & exclusive_mode(h.mode);
     if asked {
         let at = h.channel.0 as usize;
-        return held_elsewhere(states, h.mode, at);
+        return held_elsewhere(channels, h.mode, at);
     }
     false
 }
 
-// Every check in order, of what the record shows: whether it is consistent, its states, what the message's channel holds, its meters.
-fn judge(
-    good: bool,
-    states: [u8; 64],
-    held: Config,
+// Checks 15 to 23, by what was found to govern the message.
+pub(crate) fn judge(
+    found: Found,
+    area: &[u8; AREA],
+    channels: &[u8],
     meters: Readings,
     h: Header,
     m: &[u8],
     rows: usize,
     levels: usize,
-) -> Found
+) -> u8
+    requires { ⌜ (length (now channels) ≡ recordSize) × (length (now area) ≡ areaSize) ⌝ }
     requires { ⌜ h ≡ headerOf (now m) ⌝ }
-    requires { ⌜ (good ≡ true → overLimit (sumsIn meters) ≡ false) ⌝ }
-    ensures { λ f. ⌜ ((r : Receiver) → Shown r (now (m .entry)) good states held meters → Judgement r (now (m .entry)) (lent rows levels) f) ⌝ }
+    requires { ⌜ Governed (shownBy (now channels) meters) (now m) found (now area) ⌝ }
+    ensures { λ r. ⌜ r ≡ messageNumber (shownBy (now (channels .entry)) meters) (now (m .entry)) (lent rows levels) ⌝ }
 {
-    if !good {
-        return none_found(1);
+    let refused = found.number != 0;
+    if refused {
+        return found.number;
     }
-    let header = header_number(m);
-    let malformed = header != 0;
-    if malformed {
-        return none_found(header);
-    }
-    let found = governing(held, m, h);
-    let misrouted = found.number != 0;
-    if misrouted {
-        return found;
-    }
-    let elsewhere = has_holder(states, h);
+    let elsewhere = has_holder(channels, h);
     if elsewhere {
-        return none_found(15);
-    }
-    let closed = !h.routing & (held.state == CLOSED);
-    if closed {
-        return none_found(16);
+        return 15;
     }
     let config = found.config;
+    let closed = !h.routing & (config.state == CLOSED);
+    if closed {
+        return 16;
+    }
     let start = h.start;
     let octets = data_of(m, start);
     let mismatch = match_number(h.chunk_type, config, octets);
     let unmatched = mismatch != 0;
     if unmatched {
-        return none_found(mismatch);
+        return mismatch;
     }
-    let content = content_number(h.chunk_type, config, octets, rows, levels);
+    let content = content_number(h.chunk_type, config, area, octets, rows, levels);
     let unfit = content != 0;
     if unfit {
-        return none_found(content);
+        return content;
     }
-    let number = meter_number(h.chunk_type, config, octets, meters);
-    Found { number, config }
+    meter_number(h.chunk_type, config, area, octets, meters)
 }
 
+// ---- applying
+
 // What a message answered with a number writes: nothing where that refuses it.
-fn write(number: u8, h: Header, k: Config, m: &[u8], rows: &mut [i32], levels: &mut [u8]) -> Counts
+pub(crate) fn write(
+    number: u8,
+    h: Header,
+    k: Config,
+    area: &[u8; AREA],
+    m: &[u8],
+    rows: &mut [i32],
+    levels: &mut [u8],
+) -> Counts
+    requires { ⌜ length (now area) ≡ areaSize ⌝ }
     requires { ⌜ h ≡ headerOf (now m) ⌝ }
-    requires { ⌜ (number ≡ 0 → (headerNumber (now m) ≡ 0) × (contentNumber (chunkOf (now m)) (configurationOf k) (lengths (slices (now rows) (now levels))) ≡ 0)) ⌝ }
-    ensures { λ d. ⌜ WrittenBy number (now (m .entry)) (configurationOf k) (slices (now (rows .entry)) (now (levels .entry))) d (slices (now (rows .exit)) (now (levels .exit))) ⌝ }
+    requires { ⌜ (number ≡ 0 → (headerNumber (now m) ≡ 0) × (contentNumber (chunkOf (now m)) (configurationOf k (now area)) (lengths (slices (now rows) (now levels))) ≡ 0)) ⌝ }
+    ensures { λ d. ⌜ WrittenBy number (now (m .entry)) (configurationOf k (now (area .entry))) (slices (now (rows .entry)) (now (levels .entry))) d (slices (now (rows .exit)) (now (levels .exit))) ⌝ }
 {
     let refuses = number != 0;
     if refuses {
@@ -139,24 +166,37 @@ fn write(number: u8, h: Header, k: Config, m: &[u8], rows: &mut [i32], levels: &
     }
     let start = h.start;
     let octets = data_of(m, start);
-    draw(h.chunk_type, k, octets, rows, levels)
+    draw(h.chunk_type, k, area, octets, rows, levels)
+}
+
+// The meters after what was written; they were as `before` says.
+pub(crate) fn raise(meters: &mut [u64], before: Readings, d: Counts)
+    requires { ⌜ length (now meters) ≡ meterCount ⌝ }
+    requires { ⌜ (before .«lit_time» + d .«lit_time» < 2 ^ 64) × (before .points + d .points < 2 ^ 64) × (before .«lit_points» + d .«lit_points» < 2 ^ 64) ⌝ }
+    ensures { λ _. ⌜ now (meters .exit) ≡ risenFrom before d ⌝ }
+{
+    let risen = readings_of(
+        before.lit_time + d.lit_time,
+        before.points + d.points as u64,
+        before.lit_points + d.lit_points as u64,
+    );
+    set_meters(meters, risen);
 }
 
 // The space modifier in force: there is none without a dictionary.
-fn space_of(k: Config) -> u16
-    ensures { λ r. ⌜ r ≡ configurationOf k .sample .space ⌝ }
+fn space_of(k: Config, area: &[u8; AREA]) -> u16
+    ensures { λ r. ⌜ r ≡ configurationOf k (now (area .entry)) .sample .space ⌝ }
 {
     let graphic = graphic_mode(mode_in(k.state));
     if graphic {
-        let layout = k.layout;
-        return tags::kept::space(layout);
+        return space_in(area);
     }
     0
 }
 
 // The reply to a message answered with a number.
-fn reply_of(number: u8, h: Header, k: Config, drawn: Counts) -> Reply
-    ensures { λ r. ⌜ ((m : List ℕ) → h ≡ headerOf m → drawn ≡ countsWith number (chunkOf m) (configurationOf k) → r ≡ replyOf m number (configurationOf k)) ⌝ }
+pub(crate) fn reply_of(number: u8, h: Header, k: Config, area: &[u8; AREA], drawn: Counts) -> Reply
+    ensures { λ r. ⌜ ((m : List ℕ) → h ≡ headerOf m → drawn ≡ countsWith number (chunkOf m) (configurationOf k (now (area .entry))) → r ≡ replyOf m number (configurationOf k (now (area .entry)))) ⌝ }
 {
     let is_refusal = number != 0;
     if is_refusal {
@@ -168,92 +208,37 @@ fn reply_of(number: u8, h: Header, k: Config, drawn: Counts) -> Reply
         channel,
         chunk_type: h.chunk_type,
         timestamp: h.timestamp,
-        space: space_of(k),
+        space: space_of(k, area),
         points: drawn.points,
         lit_points: drawn.lit_points,
         levels: drawn.levels,
     }
 }
 
-// What a channel holds, of its parts.
-fn config(state: u8, match_bits: u8, layout: Layout, dimmer: Dimmer) -> Config
-    ensures { λ r. ⌜ r ≡ record { state = state; «match_bits» = «match_bits»; layout = layout; dimmer = dimmer } ⌝ }
-{
-    Config {
-        state,
-        match_bits,
-        layout,
-        dimmer,
-    }
-}
+// ---- the call that takes the record as a value
 
-// A configuration with its channel closed.
-fn close(k: Config) -> Config
-    ensures { λ r. ⌜ r ≡ shut k ⌝ }
+// The call in place, on arrays, as the fields of a receiver are lent.
+fn offer_in(
+    channels: &mut [u8; RECORD],
+    meters: &mut [u64; METERS],
+    octets: &[u8],
+    rows: &mut [i32],
+    levels: &mut [u8],
+) -> Reply
+    ensures { λ r. ⌜ Answered (recordIn (now (channels .entry)) (now (meters .entry))) (now (octets .entry)) (slices (now (rows .entry)) (now (levels .entry))) (outcome (recordIn (now (channels .exit)) (now (meters .exit))) r) (slices (now (rows .exit)) (now (levels .exit))) ⌝ }
 {
-    let layout = k.layout;
-    let dimmer = k.dimmer;
-    config(CLOSED, k.match_bits, layout, dimmer)
-}
-
-// What the channel of a message answered with a number holds from then on; k is what governed the message.
-fn kept_config(number: u8, closing: bool, held: Config, k: Config) -> Config
-    ensures { λ r. ⌜ r ≡ keptConfig number closing held k ⌝ }
-{
-    let accepted = number == 0;
-    if accepted {
-        if closing {
-            return close(k);
-        }
-        return k;
-    }
-    let mismatch = number == 19;
-    if mismatch {
-        return close(held);
-    }
-    held
+    mewkoast_offer_on(channels, meters, octets, rows, levels)
 }
 
 impl Receiver {
-    // One message offered with the slices lent for it: the reply, and the next receiver. Check 1 stands here, and the record is changed
-    // here in place, because a function that takes the record takes a copy of it.
+    // One message offered with the slices lent for it: the reply, and the next receiver.
     pub fn message(self, octets: &[u8], rows: &mut [i32], levels: &mut [u8]) -> Outcome
         ensures { λ o. ⌜ Answered self (now (octets .entry)) (slices (now (rows .entry)) (now (levels .entry))) o (slices (now (rows .exit)) (now (levels .exit))) ⌝ }
     {
-        let mut ok = !over_limit(self.lit_time, self.points, self.lit_points);
-        let mut passed: usize = 0;
-        while passed < 64 {
-            let c = passed;
-            passed += 1;
-            let state = self.states[c];
-            let open = state != CLOSED;
-            if open {
-                let k = config(state, self.matches[c], self.layouts[c], self.dimmers[c]);
-                ok = ok & sound_channel(k);
-            }
-        }
-        let h = header::read(octets);
-        let at = h.channel.0 as usize;
-        let state = self.states[at];
-        let held = config(state, self.matches[at], self.layouts[at], self.dimmers[at]);
-        let states = self.states;
-        let sums = readings_of(self.lit_time, self.points, self.lit_points);
-        let found = judge(ok, states, held, sums, h, octets, rows.len(), levels.len());
-        let number = found.number;
-        let k = found.config;
-        let drawn = write(number, h, k, octets, rows, levels);
-        let kept = kept_config(number, h.close, held, k);
-        let layout = kept.layout;
-        let dimmer = kept.dimmer;
         let mut receiver = self;
-        receiver.states[at] = kept.state;
-        receiver.matches[at] = kept.match_bits;
-        receiver.layouts[at] = layout;
-        receiver.dimmers[at] = dimmer;
-        receiver.lit_time = receiver.lit_time + drawn.lit_time;
-        receiver.points = receiver.points + drawn.points as u64;
-        receiver.lit_points = receiver.lit_points + drawn.lit_points as u64;
-        let reply = reply_of(number, h, k, drawn);
+        let mut meters = receiver.meters;
+        let reply = offer_in(&mut receiver.channels, &mut meters, octets, rows, levels);
+        receiver.meters = meters;
         Outcome { receiver, reply }
     }
 }

@@ -6,12 +6,12 @@ use super::modes::dimmer_mode;
 use super::modes::graphic_mode;
 use super::modes::known_mode;
 use super::modes::service_fits;
-use tags::Dimmer;
-use tags::Layout;
-use tags::kept::no_dimmer;
-use tags::kept::no_layout;
+use tags::kept::AREA;
+use tags::kept::keep_dimmer;
+use tags::kept::keep_layout;
 ghost use mathlib.Core.Path.{_≡_};
-ghost use Prim.Native.Nat.{_+_, _≤_};
+ghost use lib.ListN.{length};
+ghost use Rattle.tags.specs.Kept.{areaSize};
 ghost use Rattle.receiver.specs.Steps.{RoutedTo};
 
 // A number, and where it is 0 what governs.
@@ -24,34 +24,33 @@ pub struct Found {
 pub(crate) fn none_found(number: u8) -> Found
     ensures { λ r. ⌜ r .number ≡ number ⌝ }
 {
-    let layout = no_layout();
-    let dimmer = no_dimmer();
-    let config = Config {
-        state: CLOSED,
-        match_bits: 0,
-        layout,
-        dimmer,
-    };
-    Found { number, config }
+    found_with(number, CLOSED, 0, 0, 0)
 }
 
-// What routing to a mode brings, with the number of its tags' check.
-fn routed_to(number: u8, mode: u8, match_bits: u8, layout: Layout, dimmer: Dimmer) -> Found
-    requires { ⌜ mode ≤ 6 ⌝ }
-    ensures { λ r. ⌜ r ≡ record { number = number; config = record { state = mode + 1; «match_bits» = «match_bits»; layout = layout; dimmer = dimmer } } ⌝ }
+// A number with a configuration, of its parts.
+fn found_with(number: u8, state: u8, match_bits: u8, size: u8, colours: u8) -> Found
+    ensures { λ r. ⌜ r ≡ record { number = number; config = record { state = state; «match_bits» = «match_bits»; size = size; colours = colours } } ⌝ }
 {
     let config = Config {
-        state: mode + 1,
+        state,
         match_bits,
-        layout,
-        dimmer,
+        size,
+        colours,
     };
     Found { number, config }
 }
 
-// Checks 6 to 14 of a message with Routing.
-pub(crate) fn route(mode: u8, service: ServiceId, match_bits: u8, tags: &[u8]) -> Found
-    ensures { λ r. ⌜ RoutedTo mode (service .0) «match_bits» (now (tags .entry)) r ⌝ }
+// Checks 6 to 14 of a message with Routing; what its tags say is kept in the area.
+pub(crate) fn route(
+    mode: u8,
+    service: ServiceId,
+    match_bits: u8,
+    tags: &[u8],
+    area: &mut [u8; AREA],
+) -> Found
+    requires { ⌜ length (now area) ≡ areaSize ⌝ }
+    ensures { λ r. ⌜ RoutedTo mode (service .0) «match_bits» (now (tags .entry)) r (now (area .exit)) ⌝ }
+    ensures { λ r. ⌜ length (now (area .exit)) ≡ areaSize ⌝ }
 {
     let known = known_mode(mode);
     if !known {
@@ -65,13 +64,21 @@ pub(crate) fn route(mode: u8, service: ServiceId, match_bits: u8, tags: &[u8]) -
     if graphic {
         let checked = tags::dictionary::check(mode, tags);
         let layout = checked.layout;
-        return routed_to(checked.number, mode, match_bits, layout, no_dimmer());
+        keep_layout(layout, area);
+        return found_with(
+            checked.number,
+            mode + 1,
+            match_bits,
+            layout.width,
+            layout.colours,
+        );
     }
     let dims = dimmer_mode(mode);
     if dims {
         let mapped = tags::dimming::check(tags);
         let dimmer = mapped.dimmer;
-        return routed_to(mapped.number, mode, match_bits, no_layout(), dimmer);
+        keep_dimmer(dimmer, area);
+        return found_with(mapped.number, mode + 1, match_bits, dimmer.count, 0);
     }
-    routed_to(0, mode, match_bits, no_layout(), no_dimmer())
+    found_with(0, mode + 1, match_bits, 0, 0)
 }

@@ -17,8 +17,7 @@ fn section_number(m: &[u8]) -> u8
     if top_clear {
         return 3;
     }
-    let h = header::read(m);
-    let short = n < h.start;
+    let short = n < header::data_start(m);
     if short {
         return 5;
     }
@@ -34,8 +33,7 @@ pub fn section_start(octets: &[u8]) -> usize
     if refused {
         return 0;
     }
-    let h = header::read(octets);
-    h.start
+    header::data_start(octets)
 }
 
 // The data section from where it starts, as the message's own octets; the empty part where 2, 3 or 5 applies.
@@ -48,7 +46,6 @@ pub fn data_section(octets: &[u8]) -> &[u8]
     if refused {
         return &octets[0..0];
     }
-    let h = header::read(octets);
-    let start = h.start;
+    let start = header::data_start(octets);
     &octets[start..]
 }

@@ -1,8 +1,7 @@
 pub mod RoleLaws
-pub mod CodeLaws
 pub mod TemplateLaws
-pub mod PointLaws
+pub mod SignalLaws
 pub mod SlotLaws
-pub mod PlanLaws
-pub mod ChunkLaws
-pub mod KindLaws
+pub mod RowLaws
+pub mod LitLaws
+pub mod PointLaws

@@ -1,17 +1,24 @@
--- Laws of the points of a chunk, one after the other: where a sample and a row lie, and what one more row makes of the lent rows.
-use Prim.Native.Nat.{ℕ, zero, suc, _+_, _-_, _*_, _<_, _≤_}
-use native.Mathlib.Nat.{suc-mul, mul-le-mul-right, le-trans}
+-- Laws of the points of a chunk, one after the other: where a sample and a row lie, what one more row makes of the lent rows, how
+-- wide a sample is, and the room.
+use Prim.Native.Nat.{ℕ, zero, suc, _+_, _-_, _*_, _/_, _<_, _≤_, min}
+use native.Mathlib.Nat.{zero-mul, suc-mul, mul-le-mul-right, le-trans, div-mul-le-self}
 use native.Mathlib.Omega.{arith}
+use native.Mathlib.Decide.{decLt}
 use native.Mathlib.Numerals.{add-one}
 use mathlib.Core.Path.{_≡_, refl, sym, _∙_}
 use mathlib.Core.Bool.{Bool, true, false, cond}
-use mathlib.Core.List.{List, [], _∷_, _++_, append-assoc}
-use lib.ListN.{length, take, drop, set, length-append, length-set}
-use lib.Seq.{take-at, drop-at, drop-drop}
+use mathlib.Core.List.{List, _++_, append-assoc}
+use lib.ListN.{length, take, drop, length-append, length-take}
+use lib.Seq.{take-at, drop-at, drop-drop, take-all}
 use lib.IntN.{ℤ}
-use borrow.Rule.Slice.PartMut.{putMid}
-use Rattle.samples.specs.Limits.{rowSize}
-use Rattle.samples.specs.Codes.{Plan, putAll, slotIn, shuttered, rowBy, litBy, part, rowsBy, countBy}
+use borrow.Author.Tests.{le-leb, lt-leb}
+use borrow.Rule.Slice.PartMut.{putMid, mid-len}
+use Rattle.samples.specs.declared.plan.Plan.{Plan}
+use Rattle.samples.specs.Limits.{octetLimit, rowSize}
+use Rattle.samples.specs.Row.{rowOf, litOf}
+use Rattle.samples.specs.Points.{samplesIn, sampleAt, rowsOf, litIn, roomFor}
+use Rattle.samples.specs.Plan.{Planned, Ready}
+use Rattle.samples.proofs.RowLaws.{slotsOf-length}
 
 -- ---- where they lie
 
@@ -23,58 +30,90 @@ times-within i n w m h b =
     let s : i + 1 ≤ n = omega arith in
     rw (times-more i w) at (le-trans (mul-le-mul-right w s) b)
 
-pub part-is : (w i at : ℕ) (octets : List ℕ) → at ≡ i * w → take (at + w - at) (drop at octets) ≡ part w octets i
-part-is w i at octets e = let q : at + w - at ≡ w = omega arith in rw (q, e) refl
+module _ (roles octets : List ℕ) (w i at : ℕ) (l : length roles ≡ w) (e : at ≡ i * w) where
+  pub sample-is : take (at + w - at) (drop at octets) ≡ sampleAt roles octets i
+  sample-is = let q : at + w - at ≡ w = omega arith in rw (q, e, l) refl
 
--- ---- how long a row is
+  -- the plan of the roles is ready for the sample
+  abbrev pub ready : (p : Plan) (waves : List ℕ) → at + w ≤ length octets → Planned p roles waves → Ready p (length (take (at + w - at) (drop at octets)))
+  ready p waves b d =
+      let q : at + w - at ≡ w = omega arith in
+      record { roles = roles; waves = waves; sized = l ∙ sym (mid-len at (at + w) octets b ∙ q); planned = d }
 
-pub putAll-length : (g : ℕ → ℤ) (codes : List ℕ) (row : List ℤ) → length (putAll g codes row) ≡ length row
-unfolding putAll
-putAll-length g [] row = refl
-putAll-length g (e ∷ codes) row = putAll-length g codes (set row (slotIn e) (g e)) ∙ length-set row (slotIn e) (g e)
+-- ---- one point more
 
-shuttered-length : (b : Bool) (h : ℕ) (row : List ℤ) → length (shuttered b h row) ≡ length row
-unfolding shuttered
-shuttered-length true h row = length-set row 5 _
-shuttered-length false h row = refl
+module _ (roles waves octets : List ℕ) where
+  rowsOf-length : (n : ℕ) → length (rowsOf roles waves octets n) ≡ n * rowSize
+  unfolding rowsOf
+  rowsOf-length zero = refl
+  rowsOf-length (suc n) =
+      rw (length-append, rowsOf-length n, slotsOf-length roles waves (sampleAt roles octets n) rowSize) (sym (suc-mul n rowSize))
 
-module _ (p : Plan) (l : length (p .template) ≡ rowSize) where
-  pub rowBy-length : (sample : List ℕ) → length (rowBy p sample) ≡ rowSize
-  unfolding rowBy
-  rowBy-length sample = simp (shuttered-length, putAll-length) l
+  rowsOf-more : (n : ℕ) → rowsOf roles waves octets (n + 1) ≡ rowsOf roles waves octets n ++ rowOf roles waves (sampleAt roles octets n)
+  unfolding rowsOf
+  rowsOf-more n = rw (add-one n) refl
 
-  rowsBy-length : (w : ℕ) (octets : List ℕ) (n : ℕ) → length (rowsBy p w octets n) ≡ n * rowSize
-  unfolding rowsBy
-  rowsBy-length w octets zero = refl
-  rowsBy-length w octets (suc n) =
-      rw (length-append, rowsBy-length w octets n, rowBy-length (part w octets n)) (sym (suc-mul n rowSize))
-
-  -- ---- one point more
-
-  rowsBy-more : (w : ℕ) (octets : List ℕ) (n : ℕ) → rowsBy p w octets (n + 1) ≡ rowsBy p w octets n ++ rowBy p (part w octets n)
-  unfolding rowsBy
-  rowsBy-more w octets n = rw (add-one n) refl
-
-  pub rows-more : (w i start : ℕ) (octets : List ℕ) (rows₀ rows row : List ℤ) → start ≡ i * rowSize → row ≡ rowBy p (part w octets i) → rows ≡ rowsBy p w octets i ++ drop (i * rowSize) rows₀ → putMid start (start + rowSize - start) rows row ≡ rowsBy p w octets (i + 1) ++ drop ((i + 1) * rowSize) rows₀
-  rows-more w i start octets rows₀ rows row e er q =
+  pub rows-more : (i start : ℕ) (rows₀ rows row : List ℤ) → start ≡ i * rowSize → row ≡ rowOf roles waves (sampleAt roles octets i) → rows ≡ rowsOf roles waves octets i ++ drop (i * rowSize) rows₀ → putMid start (start + rowSize - start) rows row ≡ rowsOf roles waves octets (i + 1) ++ drop ((i + 1) * rowSize) rows₀
+  rows-more i start rows₀ rows row e er q =
       let d : start + rowSize - start ≡ rowSize = omega arith in
       rw (
         d,
         e,
         q,
         times-more i rowSize,
-        rowsBy-more w octets i,
+        rowsOf-more i,
         er,
-        take-at (rowsBy p w octets i) (drop (i * rowSize) rows₀) (i * rowSize) (rowsBy-length w octets i),
-        drop-at (rowsBy p w octets i) (drop (i * rowSize) rows₀) (i * rowSize) (rowsBy-length w octets i),
+        take-at (rowsOf roles waves octets i) (drop (i * rowSize) rows₀) (i * rowSize) (rowsOf-length i),
+        drop-at (rowsOf roles waves octets i) (drop (i * rowSize) rows₀) (i * rowSize) (rowsOf-length i),
         drop-drop rowSize (i * rowSize) rows₀,
       )
-      (sym (append-assoc (rowsBy p w octets i) (rowBy p (part w octets i)) (drop (i * rowSize + rowSize) rows₀)))
+      (sym (append-assoc (rowsOf roles waves octets i) (rowOf roles waves (sampleAt roles octets i)) (drop (i * rowSize + rowSize) rows₀)))
 
-pub countBy-more : (colours : List ℕ) (hint w i b lit : ℕ) (octets : List ℕ) (f : Bool) → f ≡ litBy colours hint (part w octets i) → b ≡ cond f 1 0 → lit ≡ countBy colours hint w octets i → lit + b ≡ countBy colours hint w octets (i + 1)
-unfolding countBy
-countBy-more colours hint w i b lit octets f ef eb q = rw (add-one i, eb, ef, q) refl
+pub lit-more : (roles octets : List ℕ) (i b lit : ℕ) (f : Bool) → f ≡ litOf roles (sampleAt roles octets i) → b ≡ cond f 1 0 → lit ≡ litIn roles octets i → lit + b ≡ litIn roles octets (i + 1)
+unfolding litIn
+lit-more roles octets i b lit f ef eb q = rw (add-one i, eb, ef, q) refl
 
 pub bit-le : (f : Bool) (b : ℕ) → b ≡ cond f 1 0 → b ≤ 1
 bit-le true b e = omega arith
 bit-le false b e = omega arith
+
+-- one sample by itself
+module _ (roles octets part : List ℕ) (i : ℕ) (e : part ≡ sampleAt roles octets i) where
+  alone : litIn roles part 1 ≡ cond (litOf roles (sampleAt roles octets i)) 1 0
+  unfolding litIn
+  alone =
+      rw (zero-mul (length roles), take-all (length roles) part (rw e (simp length-take (omega arith))), e) (omega arith)
+
+  pub lit-one : (r lit : ℕ) → r ≡ litIn roles part 1 → lit ≡ litIn roles octets i → (r ≤ 1) × (lit + r ≡ litIn roles octets (i + 1))
+  lit-one r lit er q =
+      let f = litOf roles (sampleAt roles octets i) in
+      (bit-le f r (er ∙ alone), lit-more roles octets i r lit f refl (er ∙ alone) q)
+
+-- ---- the width
+
+-- no more octets than the limit have a role
+module _ (roles : List ℕ) (width size : ℕ) (l : length roles ≡ octetLimit) (e : size ≡ min width octetLimit) where
+  pub clamped-length : length (take width roles) ≡ size
+  clamped-length = length-take width roles ∙ rw l (sym e)
+
+  pub clamped-take : take size roles ≡ take width roles
+  clamped-take = go (decLt width octetLimit)
+    where
+      go : Dec (width < octetLimit) → take size roles ≡ take width roles
+      go (yes h) = let q : size ≡ width = omega arith in rw q refl
+      go (no h) = take-all size roles (omega arith) ∙ sym (take-all width roles (omega arith))
+
+-- ---- the room
+
+module _ (roles octets : List ℕ) (rows : List ℤ) (size samples : ℕ) (e : length roles ≡ size) (c : samples ≡ length octets / size) where
+  pub samples-are : samples ≡ samplesIn roles octets
+  samples-are = rw e c
+
+  pub samples-within : samples * size ≤ length octets
+  samples-within = rw c (div-mul-le-self (length octets) size)
+
+  pub room-none : length rows / rowSize < samples → roomFor roles octets rows ≡ false
+  room-none h = rw (← samples-are) (lt-leb (samples * rowSize) (length rows) (omega arith))
+
+  pub room-some : samples ≤ length rows / rowSize → roomFor roles octets rows ≡ true
+  room-some h = rw (← samples-are) (le-leb (samples * rowSize) (length rows) (omega arith))

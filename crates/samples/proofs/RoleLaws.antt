@@ -3,18 +3,18 @@ use Prim.Native.Nat.{ℕ, suc, _+_, _<_, _≤_}
 use native.Mathlib.Omega.{arith}
 use native.Mathlib.Decide.{ℕ-discrete}
 use mathlib.Core.Path.{_≡_, refl, sym, _∙_}
-use mathlib.Core.Bool.{Bool, true, false, cond}
-use mathlib.Core.List.{List, [], _∷_}
+use mathlib.Core.Bool.{cond}
+use mathlib.Core.List.{List}
 use lib.ListN.{length, getD, drop, set, length-set, drop-of-length-le}
 use lib.Seq.{drop-cons, getD-set-same, getD-set-other}
 use lib.Dec.{eqb}
 use borrow.Author.Tests.{eq-eqb, ne-eqb}
 use Rattle.samples.specs.Roles.{placeOf}
-use Rattle.samples.specs.Codes.{tableSize}
+use Rattle.samples.specs.Signals.{tableSize}
 
 -- ---- one role
 
-pub placeOf-step : (k : ℕ) (roles : List ℕ) (i : ℕ) → i < length roles → placeOf k (drop i roles) ≡ cond (eqb (getD roles i 0) k) 0 (suc (placeOf k (drop (suc i) roles)))
+placeOf-step : (k : ℕ) (roles : List ℕ) (i : ℕ) → i < length roles → placeOf k (drop i roles) ≡ cond (eqb (getD roles i 0) k) 0 (suc (placeOf k (drop (suc i) roles)))
 unfolding placeOf
 placeOf-step k roles i h = rw (drop-cons roles i 0 h) refl
 
@@ -27,15 +27,6 @@ placeOf-later : (k : ℕ) (roles : List ℕ) (i : ℕ) → i < length roles → 
 placeOf-later k roles i h ne =
     let z : placeOf k (drop i roles) ≡ suc (placeOf k (drop (suc i) roles)) = rw (placeOf-step k roles i h, ne-eqb _ _ ne) refl in
     omega arith
-
-pub placeOf-le : (k : ℕ) (roles : List ℕ) → placeOf k roles ≤ length roles
-unfolding placeOf
-placeOf-le k [] = omega arith
-placeOf-le k (x ∷ roles) = go (eqb x k) (placeOf-le k roles)
-  where
-    go : (b : Bool) → placeOf k roles ≤ length roles → cond b 0 (suc (placeOf k roles)) ≤ suc (length roles)
-    go true h = omega arith
-    go false h = omega arith
 
 -- ---- the table
 

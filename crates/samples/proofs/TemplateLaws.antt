@@ -11,7 +11,7 @@ use lib.IntN.{ℤ, pos}
 use lib.Dec.{ltb, eqb}
 use borrow.Author.Tests.{lt-ltb, le-ltb, ne-eqb}
 use Rattle.samples.specs.Limits.{colourLimit, rowSize}
-use Rattle.samples.specs.Codes.{restOf}
+use Rattle.samples.specs.Plan.{restOf}
 
 -- the slots below 16 + k are as they are to be, and the others are 0
 abbrev pub Waved : Bool → List ℕ → List ℤ → ℕ → Type 0

@@ -2,5 +2,6 @@ pub mod Limits
 pub mod Roles
 pub mod Row
 pub mod Points
-pub mod Codes
+pub mod Signals
+pub mod Plan
 pub mod Table

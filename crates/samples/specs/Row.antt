@@ -1,6 +1,5 @@
 -- One sample as one row (document 01, "One row"). `roles` says what each octet is for, `waves` has the wavelength of each colour in
--- dictionary order (0 where a prefix gives it), and `sample` holds the octets. An absent signal has no octet, so each of its octets
--- reads as 0.
+-- dictionary order (0 where a prefix gives it), and `sample` holds the octets. A signal is absent where no octet has the role of its first.
 use Prim.Native.Nat.{ℕ, zero, suc, _+_, _-_, _*_, _/_, _%_, _^_}
 use mathlib.Core.Bool.{Bool, false, not, cond, _||_}
 use mathlib.Core.List.{List, [], _∷_, _++_}
@@ -14,9 +13,10 @@ use Rattle.samples.specs.Roles.{firstOf, precisionOf, hintOf, placeOf, h
 abbrev pub octetOf : List ℕ → List ℕ → ℕ → ℕ
 octetOf roles sample r = getD sample (placeOf r roles) 0
 
--- "A value is octet × 256 + precision octet (0 if none)"
+-- "A value is octet × 256 + precision octet (0 if none)"; "Absent signals are 0": so is one without a first octet
 abbrev pub valueOf : List ℕ → List ℕ → ℕ → ℕ
-valueOf roles sample s = octetOf roles sample (firstOf s) * 256 + octetOf roles sample (precisionOf s)
+valueOf roles sample s =
+    cond (has roles (firstOf s)) (octetOf roles sample (firstOf s) * 256 + octetOf roles sample (precisionOf s)) 0
 
 -- "in coordinates the first octet is signed": sixteen bits in two's complement
 abbrev pub signed : ℕ → ℤ

@@ -1,5 +1,4 @@
 // Samples to rows: each point of a chunk as a row of numbers (document 01, "One row").
-mod chunk;
 pub mod limits;
 mod octets;
 mod places;
@@ -7,6 +6,8 @@ mod plan;
 mod points;
 mod roles;
 mod row;
+mod signals;
+mod waves;
 
 use limits::COLOUR_LIMIT;
 use limits::OCTET_LIMIT;
@@ -41,14 +42,14 @@ pub fn draw(
     if rows.len() / ROW < samples {
         return 0;
     }
-    chunk::draw(&roles, size, &waves, colours, samples, octets, rows)
+    points::draw_all(&roles, size, &waves, colours, samples, octets, rows)
 }
 
-// How many of the points of `octets` are lit, without drawing them.
+// How many of the points of `octets` are lit; no rows are lent for them.
 pub fn lit_points(roles: [u8; OCTET_LIMIT], width: usize, octets: &[u8]) -> usize
     ensures { λ r. ⌜ r ≡ litPointsIn (take width roles) (now (octets .entry)) ⌝ }
 {
     let size = places::least(width, OCTET_LIMIT);
     let samples = points::samples_in(octets.len(), size);
-    chunk::count(&roles, size, samples, octets)
+    points::count_lit(&roles, size, samples, octets)
 }

@@ -1,9 +1,10 @@
 // Octets of one sample, and the numbers that they make.
 ghost use mathlib.Core.Path.{_≡_};
-ghost use Prim.Native.Nat.{_+_, _*_, _<_, _/_};
-ghost use lib.ListN.{getD};
+ghost use Prim.Native.Nat.{_/_, _<_, _^_};
+ghost use lib.ListN.{getD, length};
+ghost use lib.Dec.{ltb};
 ghost use Rattle.samples.specs.Row.{signed};
-ghost use Rattle.samples.specs.Codes.{valueIn, scaledIn};
+ghost use Rattle.samples.specs.Signals.{valueBy};
 
 pub fn wide(x: u8) -> u32
     ensures { λ r. ⌜ (r ≡ x) × (r < 256) ⌝ }
@@ -34,31 +35,32 @@ pub fn octet(sample: &[u8], place: usize) -> u32
     0
 }
 
-// The value of a coded signal: a code is slot, place of the first octet and place of the precision octet, in that order from the
-// low end.
-pub fn value(sample: &[u8], code: u32) -> u32
-    ensures { λ r. ⌜ (r ≡ valueIn (now (sample .entry)) code) × (r < 65536) ⌝ }
+// The same where it is known beforehand whether the octet is there.
+pub fn precision(sample: &[u8], place: usize, precise: bool) -> u32
+    requires { ⌜ ltb place (length (now sample)) ≡ precise ⌝ }
+    ensures { λ r. ⌜ (r ≡ getD (now (sample .entry)) place 0) × (r < 256) ⌝ }
 {
-    let first = octet(sample, (code / 256 % 256) as usize);
-    let precision = octet(sample, (code / 65536) as usize);
-    first * 256 + precision
-}
-
-// The value divided by a power of 2.
-pub fn scaled(sample: &[u8], code: u32, shift: u32) -> u32
-    requires { ⌜ shift < 8 ⌝ }
-    ensures { λ r. ⌜ (r ≡ scaledIn shift (now (sample .entry)) code) × (r < 65536) ⌝ }
-{
-    value(sample, code) >> shift
-}
-
-// Sixteen bits in two's complement.
-pub fn coordinate(v: u32) -> i32
-    requires { ⌜ v < 65536 ⌝ }
-    ensures { λ r. ⌜ r ≡ signed v ⌝ }
-{
-    if v < 32768 {
-        return v as i32;
+    if precise {
+        return wide(sample[place]);
     }
-    v as i32 - 65536
+    0
+}
+
+// The value of a signal by the places of its octets, divided by 2 to the power `shift`.
+pub fn scaled(sample: &[u8], first: usize, second: usize, precise: bool, shift: u32) -> u32
+    requires { ⌜ (first < length (now sample)) × (ltb second (length (now sample)) ≡ precise) × (shift < 8) ⌝ }
+    ensures { λ r. ⌜ (r ≡ valueBy (now (sample .entry)) first second / 2 ^ shift) × (r < 65536) ⌝ }
+{
+    let low = precision(sample, second, precise);
+    (wide(sample[first]) * 256 + low) >> shift
+}
+
+// The same with its sign, which is that of the first octet.
+pub fn coordinate(sample: &[u8], first: usize, second: usize, precise: bool) -> i32
+    requires { ⌜ (first < length (now sample)) × (ltb second (length (now sample)) ≡ precise) ⌝ }
+    ensures { λ r. ⌜ r ≡ signed (valueBy (now (sample .entry)) first second) ⌝ }
+{
+    let low = precision(sample, second, precise);
+    let high = ((wide(sample[first]) + 128) % 256) as i32 - 128;
+    high * 256 + low as i32
 }

@@ -3,7 +3,7 @@ ghost use mathlib.Core.Path.{_≡_};
 ghost use Prim.Native.Nat.{_≤_, min};
 ghost use lib.ListN.{take, length};
 ghost use Rattle.samples.specs.Limits.{octetLimit};
-ghost use Rattle.samples.specs.Codes.{Tabled};
+ghost use Rattle.samples.specs.Signals.{Tabled};
 use super::limits::OCTET_LIMIT;
 use super::octets;
 

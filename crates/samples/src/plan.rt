@@ -1,35 +1,47 @@
-// What the points of a chunk share: a template row, and for each kind of signal a list of the slots that differ from point to
-// point. A list has codes, each of them slot, place of the first octet and place of the precision octet (specs, Codes).
+// What the points of a chunk share: a template row, and what differs from point to point.
 ghost use mathlib.Core.Path.{_≡_};
 ghost use mathlib.Core.Bool.{cond};
-ghost use mathlib.Core.List.{_++_};
-ghost use Prim.Native.Nat.{ℕ, _+_, _<_, _≤_};
+ghost use Prim.Native.Nat.{ℕ, _<_, _≤_};
 ghost use lib.ListN.{getD, take, length};
 ghost use lib.Dec.{ltb};
 ghost use lib.IntN.{pos};
-ghost use Rattle.samples.specs.Limits.{colourLimit, rowSize};
+ghost use Rattle.samples.specs.Limits.{octetLimit, rowSize};
 ghost use Rattle.samples.specs.Roles.{hintOf};
-ghost use Rattle.samples.specs.Codes.{varies, codesIn, restOf};
+ghost use Rattle.samples.specs.Plan.{restOf, SinglesBy, Planned};
 use super::limits::COLOUR_LIMIT;
+use super::limits::OCTET_LIMIT;
 use super::limits::ROW;
 use super::octets;
 use super::places;
 use super::places::TABLE;
 use super::roles;
+use super::signals;
+use super::signals::Kind;
+use super::waves;
 
-// The codes of a chunk stand in one array, the kinds one after the other: the signals with a sign, those without a scale, the
-// colours, and the intensity. Here is where each kind ends, with the place of the hint's octet and whether it gives the shutter.
-pub struct Ends {
-    pub coordinates: usize,
-    pub plains: usize,
-    pub colours: usize,
-    pub intensity: usize,
+// The places of the octets whose slots stand alone, a place at or past the sample's end where there is none; whether the hint gives
+// the shutter; and whether there is any of these three slots to be stored.
+pub struct Singles {
     pub hint: usize,
     pub shutter: bool,
+    pub intensity: usize,
+    pub intensity_precision: usize,
+    pub brush: usize,
+    pub brush_precision: usize,
+    pub any: bool,
+}
+
+// A chunk's plan: the row of a sample without octets, and the signals of each kind.
+pub struct Plan {
+    pub template: [i32; ROW],
+    pub coordinates: Kind,
+    pub colours: Kind,
+    pub waves: Kind,
+    pub singles: Singles,
 }
 
 // The place of the hint's octet, in format 1 if the sample has that one.
-pub fn hint(places: &[u8; TABLE], width: usize) -> usize
+fn hint(places: &[u8; TABLE], width: usize) -> usize
     ensures { λ r. ⌜ r ≡ cond (ltb (getD (now (places .entry)) (hintOf 1) 0) width) (getD (now (places .entry)) (hintOf 1) 0) (getD (now (places .entry)) (hintOf 0) 0) ⌝ }
 {
     let newer = octets::index(places[roles::HINT_WITH_SHUTTER]);
@@ -39,90 +51,65 @@ pub fn hint(places: &[u8; TABLE], width: usize) -> usize
     octets::index(places[roles::HINT])
 }
 
-// The hint gives the shutter: it has format 1.
-pub fn shutter(places: &[u8; TABLE], width: usize) -> bool
-    ensures { λ r. ⌜ r ≡ ltb (getD (now (places .entry)) (hintOf 1) 0) width ⌝ }
+// The slots that stand alone, by the table of places.
+fn find_singles(places: &[u8; TABLE], width: usize) -> Singles
+    ensures { λ r. ⌜ SinglesBy (now (places .entry)) width r ⌝ }
 {
-    let newer = octets::index(places[roles::HINT_WITH_SHUTTER]);
-    newer < width
-}
-
-// The fixed wavelength of a colour, 0 where there is none.
-pub fn wave(waves: &[u16; COLOUR_LIMIT], colours: usize, k: usize) -> u32
-    requires { ⌜ k < colourLimit ⌝ }
-    ensures { λ r. ⌜ (r ≡ getD (take colours (now (waves .entry))) k 0) × (r < 65536) ⌝ }
-{
-    if k < colours {
-        return octets::wider(waves[k]);
+    let hint = hint(places, width);
+    let shutter = octets::index(places[roles::HINT_WITH_SHUTTER]) < width;
+    let intensity = octets::index(places[6 + roles::FIRST_OCTET]);
+    let intensity_precision = octets::index(places[6 + roles::PRECISION_OCTET]);
+    let brush = octets::index(places[7 + roles::FIRST_OCTET]);
+    let brush_precision = octets::index(places[7 + roles::PRECISION_OCTET]);
+    Singles {
+        hint,
+        shutter,
+        intensity,
+        intensity_precision,
+        brush,
+        brush_precision,
+        any: shutter | (intensity < width) | (brush < width),
     }
-    0
 }
 
 // The row of a sample without octets.
-pub fn template(waves: &[u16; COLOUR_LIMIT], colours: usize, shutter: bool) -> [i32; ROW]
-    ensures { λ r. ⌜ (length r ≡ rowSize) × ((s : ℕ) → s < rowSize → getD r s (pos 0) ≡ restOf shutter (take colours (now (waves .entry))) s) ⌝ }
+fn template(fixed: &[u16; COLOUR_LIMIT], colours: usize, shutter: bool) -> [i32; ROW]
+    ensures { λ r. ⌜ (length r ≡ rowSize) × ((s : ℕ) → s < rowSize → getD r s (pos 0) ≡ restOf shutter (take colours (now (fixed .entry))) s) ⌝ }
 {
     let mut row = [0i32; ROW];
     if !shutter {
         row[5] = 1;
     }
-    let fixed = places::least(colours, COLOUR_LIMIT);
+    let all = places::least(colours, COLOUR_LIMIT);
     let mut k = 0;
-    while k < fixed {
-        row[16 + k] = (wave(waves, colours, k) * 64) as i32;
+    while k < all {
+        row[16 + k] = (waves::wave(fixed, colours, k) * 64) as i32;
         k += 1;
     }
     row
 }
 
-// Slot s has an octet of its own, and no fixed wavelength takes its place.
-pub fn differs(
-    places: &[u8; TABLE],
+// The plan of a chunk.
+pub fn prepare(
+    roles: &[u8; OCTET_LIMIT],
     width: usize,
-    waves: &[u16; COLOUR_LIMIT],
+    fixed: &[u16; COLOUR_LIMIT],
     colours: usize,
-    s: usize,
-) -> bool
-    requires { ⌜ s < rowSize ⌝ }
-    ensures { λ r. ⌜ r ≡ varies (now (places .entry)) width (take colours (now (waves .entry))) s ⌝ }
+) -> Plan
+    requires { ⌜ (width ≤ octetLimit) × (width ≤ length (now roles)) ⌝ }
+    ensures { λ r. ⌜ Planned r (take width (now (roles .entry))) (take colours (now (fixed .entry))) ⌝ }
 {
-    if 16 <= s {
-        if wave(waves, colours, s - 16) != 0 {
-            return false;
-        }
+    let table = places::table(roles, width);
+    let singles = find_singles(&table, width);
+    let template = template(fixed, colours, singles.shutter);
+    let coordinates = signals::gather(&table, width, fixed, colours, 0, 5);
+    let hues = signals::gather(&table, width, fixed, colours, 8, COLOUR_LIMIT);
+    let waves = signals::gather(&table, width, fixed, colours, 16, COLOUR_LIMIT);
+    Plan {
+        template,
+        coordinates,
+        colours: hues,
+        waves,
+        singles,
     }
-    let first = octets::index(places[s + roles::FIRST_OCTET]);
-    let precision = octets::index(places[s + roles::PRECISION_OCTET]);
-    (first < width) | (precision < width)
-}
-
-// Adds to the first n codes those of the `count` slots from slot `start` on that differ from point to point.
-pub fn gather(
-    places: &[u8; TABLE],
-    width: usize,
-    waves: &[u16; COLOUR_LIMIT],
-    colours: usize,
-    start: usize,
-    count: usize,
-    codes: &mut [u32; ROW],
-    n: usize,
-) -> usize
-    requires { ⌜ (start + count ≤ rowSize) × (n + count ≤ rowSize) × (length (now codes) ≡ rowSize) ⌝ }
-    ensures { λ r. ⌜ (n ≤ r) × (r ≤ n + count)
-        × (length (now (codes .exit)) ≡ rowSize)
-        × (take r (now (codes .exit)) ≡ take n (now (codes .entry)) ++ codesIn (now (places .entry)) width (take colours (now (waves .entry))) start count) ⌝ }
-{
-    let mut filled = n;
-    let mut i = 0;
-    while i < count {
-        let s = start + i;
-        if differs(places, width, waves, colours, s) {
-            let first = octets::wide(places[s + roles::FIRST_OCTET]);
-            let precision = octets::wide(places[s + roles::PRECISION_OCTET]);
-            codes[filled] = s as u32 + first * 256 + precision * 65536;
-            filled += 1;
-        }
-        i += 1;
-    }
-    filled
 }

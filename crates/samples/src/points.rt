@@ -4,10 +4,12 @@ ghost use mathlib.Core.Bool.{cond};
 ghost use mathlib.Core.List.{_++_};
 ghost use Prim.Native.Nat.{_*_, _/_, _≤_};
 ghost use lib.ListN.{length, take, drop};
-ghost use Rattle.samples.specs.Limits.{rowSize};
-ghost use Rattle.samples.specs.Codes.{slice, Ordered, planOf, rowsBy, countBy};
+ghost use Rattle.samples.specs.Limits.{octetLimit, rowSize};
+ghost use Rattle.samples.specs.Points.{rowsOf, litIn};
+use super::limits::COLOUR_LIMIT;
+use super::limits::OCTET_LIMIT;
 use super::limits::ROW;
-use super::plan::Ends;
+use super::plan;
 use super::row;
 
 // How many whole samples that many octets hold, none of width 0.
@@ -31,20 +33,22 @@ fn bit(b: bool) -> usize
 
 // The rows of the samples, and how many of the points are lit.
 pub fn draw_all(
-    template: &[i32; ROW],
-    codes: &[u32; ROW],
-    ends: Ends,
+    roles: &[u8; OCTET_LIMIT],
     width: usize,
+    fixed: &[u16; COLOUR_LIMIT],
+    colours: usize,
     samples: usize,
     octets: &[u8],
     rows: &mut [i32],
 ) -> usize
-    requires { ⌜ (samples * width ≤ length (now octets)) × (samples * rowSize ≤ length (now rows)) × (length (now template) ≡ rowSize) × Ordered (now codes) ends ⌝ }
+    requires { ⌜ (width ≤ octetLimit) × (width ≤ length (now roles)) × (samples * width ≤ length (now octets)) × (samples * rowSize ≤ length (now rows)) ⌝ }
     ensures { λ r. ⌜ (now (rows .exit)
-        ≡ rowsBy (planOf (now (template .entry)) (now (codes .entry)) ends) width (now (octets .entry)) samples
+        ≡ rowsOf (take width (now (roles .entry))) (take colours (now (fixed .entry))) (now (octets .entry)) samples
         ++ drop (samples * rowSize) (now (rows .entry)))
-        × (r ≡ countBy (slice (ends .plains) (ends .colours) (now (codes .entry))) (ends .hint) width (now (octets .entry)) samples) ⌝ }
+        × (r ≡ litIn (take width (now (roles .entry))) (now (octets .entry)) samples) ⌝ }
 {
+    let plan = plan::prepare(roles, width, fixed, colours);
+    let singles = plan.singles;
     let mut lit = 0;
     let mut i = 0;
     let mut at = 0;
@@ -52,7 +56,18 @@ pub fn draw_all(
     while i < samples {
         let end = at + width;
         let to = from + ROW;
-        let shown = row::draw(template, codes, ends, &octets[at..end], &mut rows[from..to]);
+        let shown = row::draw(
+            &plan.template,
+            &plan.coordinates.fine,
+            &plan.coordinates.coarse,
+            &plan.colours.fine,
+            &plan.colours.coarse,
+            &plan.waves.fine,
+            &plan.waves.coarse,
+            singles,
+            &octets[at..end],
+            &mut rows[from..to],
+        );
         lit += bit(shown);
         at = end;
         from = to;
@@ -61,25 +76,21 @@ pub fn draw_all(
     lit
 }
 
-// How many points of the samples are lit.
-pub fn count_lit(
-    codes: &[u32; ROW],
-    n: usize,
-    place: usize,
-    width: usize,
-    samples: usize,
-    octets: &[u8],
-) -> usize
-    requires { ⌜ (samples * width ≤ length (now octets)) × (n ≤ rowSize) × (n ≤ length (now codes)) ⌝ }
-    ensures { λ r. ⌜ r ≡ countBy (take n (now (codes .entry))) place width (now (octets .entry)) samples ⌝ }
+// How many points of the samples are lit: each is drawn by itself, over the same row. `draw_all` has the only call of `row::draw`: with
+// a second one the compiler no longer puts it in line, and drawing takes twice as long.
+pub fn count_lit(roles: &[u8; OCTET_LIMIT], width: usize, samples: usize, octets: &[u8]) -> usize
+    requires { ⌜ (width ≤ octetLimit) × (width ≤ length (now roles)) × (samples * width ≤ length (now octets)) ⌝ }
+    ensures { λ r. ⌜ r ≡ litIn (take width (now (roles .entry))) (now (octets .entry)) samples ⌝ }
 {
+    let fixed = [0u16; COLOUR_LIMIT];
+    let mut row = [0i32; ROW];
     let mut lit = 0;
     let mut i = 0;
     let mut at = 0;
     while i < samples {
-        let end = at + width;
-        lit += bit(row::lit(codes, n, place, &octets[at..end]));
-        at = end;
+        let past = at + width;
+        lit += draw_all(roles, width, &fixed, 0, 1, &octets[at..past], &mut row);
+        at = past;
         i += 1;
     }
     lit

@@ -7,10 +7,11 @@ use mathlib.Core.Path.{_≡_, ap, _∙_}
 use native.Mathlib.Numerals.{add-one}
 use native.Mathlib.Omega.{arith}
 use borrow.Author.Tests.{leb-false}
-use lib.ListN.{length, take, set, replicate, length-append, length-replicate}
+use lib.ListN.{length, take, set, replicate, length-append, length-set}
 use lib.Seq.{length-take-le, take-suc-set, append-snoc, set-at}
 use lib.Dec.{leb}
 use Rattle.tags.specs.Layout.{padded}
+use Rattle.tags.specs.DictionaryView.{Filled}
 
 -- a list of n elements, of which k are in use, has room for one more where the test b holds, and it goes after those in use
 pub room-left : (b : Bool) (n k : ℕ) → (b && leb n k) ≡ false → b ≡ true → k < n
@@ -30,13 +31,11 @@ set-padded n k l x e h =
     let less : n - length (l ++ (x ∷ [])) ≡ n - suc k = omega (arith, length-append l (x ∷ [])) in
     rw (rest, less, append-snoc l x (replicate (n - suc k) 0)) (set-at l 0 (replicate (n - suc k) 0) x k e)
 
-pub padded-more : (l : List ℕ) (n k x : ℕ) → length l ≡ n → k < n → l ≡ padded n (take k l)
+padded-more : (l : List ℕ) (n k x : ℕ) → length l ≡ n → k < n → l ≡ padded n (take k l)
     → set l k x ≡ padded n (take (k + 1) (set l k x))
 padded-more l n k x e h f =
     rw (take-more l n k x e h)
     (ap (λ (m : List ℕ). set m k x) f ∙ set-padded n k (take k l) x (length-used l n k e (omega arith)) h)
 
--- an array that is filled up to n has n elements
-pub length-padded : (n : ℕ) (l : List ℕ) → length l ≤ n → length (padded n l) ≡ n
-unfolding padded
-length-padded n l h = rw (length-append l (replicate (n - length l) 0), length-replicate {A = ℕ} (n - length l) 0) (omega arith)
+pub filled-more : (l : List ℕ) (n k x : ℕ) → Filled n k l → k < n → Filled n (k + 1) (set l k x)
+filled-more l n k x f h = (length-set l k x ∙ f .0, omega arith, padded-more l n k x (f .0) h (f .2))

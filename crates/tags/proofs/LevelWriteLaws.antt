@@ -1,34 +1,47 @@
 -- Laws for the functions that write levels: one part, by what becomes of it; one turn of a loop over the subsets; the whole chunk.
 use Prim.Native.Nat.{ℕ, suc, _+_, _-_, _*_, _<_, _≤_}
-use mathlib.Core.Bool.{true, false, cond, _&&_}
+use mathlib.Core.Bool.{true, false, cond, _&&_, and-false}
 use mathlib.Core.List.{List, _++_}
 use mathlib.Core.Path.{_≡_, ap, _∙_}
 use native.Mathlib.Omega.{arith}
-use lib.ListN.{length, getD, take, drop}
+use lib.ListN.{length, getD, take, drop, length-take, length-drop}
 use lib.Seq.{drop-drop}
-use borrow.Author.Tests.{eq-eqb, ne-eqb, le-leb, lt-leb}
-use Rattle.tags.specs.Limits.{dropBase}
-use Rattle.tags.specs.Dimmer.{Mapping, baseOf, dropped, baseInRange, countInRange, allInRange}
+use lib.Dec.{leb}
+use borrow.Author.Tests.{ne-eqb, le-leb, lt-leb}
+use Rattle.tags.specs.Limits.{levelEnd}
+use Rattle.tags.specs.Dimmer.{Mapping, baseOf, baseInRange, countInRange, allInRange}
 use Rattle.tags.specs.DimmerLaws.{base-of, count-of}
-use Rattle.tags.specs.Levels.{wholeBase, placeOfLevel, countSum, mappedSum, putLevels, putSubsets, levelsFit, levelsAfter, levelsWritten, levelsDrawn, levelsCounted}
+use Rattle.tags.specs.Levels.{wholeBase, placeOfLevel, countSum, mapped, mappedSum, putLevels, putSubsets, levelsFit, levelsAfter, levelsWritten, levelsDrawn, levelsCounted}
 use Rattle.tags.proofs.SubsetLaws.{subsetsTo, drop-subsets}
 
 -- ---- one part written, by what becomes of it
 
 module _ (mode b : ℕ) (part levels : List ℕ) where
-  pub put-dropped : b ≡ dropBase → levels ≡ putLevels mode b part levels
+  pub put-base-zero : b ≡ 0 → (levels ≡ putLevels mode b part levels) × (0 ≡ cond (mapped b (length part)) (length part) 0)
   unfolding putLevels
-  put-dropped e = rw (eq-eqb b dropBase e)
+  put-base-zero e = (rw (lt-leb 1 b (omega arith)), rw (lt-leb 1 b (omega arith)))
 
-  pub put-outside : (p : ℕ) → (b ≡ dropBase → ⊥) → p ≡ placeOfLevel mode b → length levels < p + length part
-      → levels ≡ putLevels mode b part levels
+  pub put-past-end : leb (b + length part) levelEnd ≡ false
+      → (levels ≡ putLevels mode b part levels) × (0 ≡ cond (mapped b (length part)) (length part) 0)
   unfolding putLevels
-  put-outside p h e g = rw (ne-eqb b dropBase h, ← e, lt-leb (p + length part) (length levels) g)
+  put-past-end e = (rw (e, and-false (leb 1 b)), rw (e, and-false (leb 1 b)))
 
-  pub put-within : (p : ℕ) (after : List ℕ) → (b ≡ dropBase → ⊥) → p ≡ placeOfLevel mode b → p + length part ≤ length levels
-      → after ≡ take p levels ++ part ++ drop (p + length part) levels → after ≡ putLevels mode b part levels
-  unfolding putLevels
-  put-within p after h e g a = rw (ne-eqb b dropBase h, ← e, le-leb (p + length part) (length levels) g) a
+  module _ (h : 1 ≤ b) (e : leb (b + length part) levelEnd ≡ true) (p : ℕ) (q : p ≡ placeOfLevel mode b) where
+    pub put-counted : length part ≡ cond (mapped b (length part)) (length part) 0
+    put-counted = rw (le-leb 1 b h, e)
+
+    pub put-outside : length levels < p + length part → levels ≡ putLevels mode b part levels
+    unfolding putLevels
+    put-outside g = rw (le-leb 1 b h, e, ← q, lt-leb (p + length part) (length levels) g)
+
+    pub put-within : (after : List ℕ) → p + length part ≤ length levels
+        → after ≡ take p levels ++ part ++ drop (p + length part) levels → after ≡ putLevels mode b part levels
+    unfolding putLevels
+    put-within after g a = rw (le-leb 1 b h, e, ← q, le-leb (p + length part) (length levels) g) a
+
+-- a part of c octets from `from` on, as code takes it
+pub part-length : (octets : List ℕ) (from c : ℕ) → from + c ≤ length octets → length (take (from + c - from) (drop from octets)) ≡ c
+part-length octets from c h = rw (length-take (from + c - from) (drop from octets), length-drop from octets) (omega arith)
 
 -- ---- one turn of a loop over the subsets that two arrays hold: the j-th of them, whose count is an octet
 
@@ -43,7 +56,7 @@ module _ (n j : ℕ) (bases counts : List ℕ) (hn : j < n) (hb : j < length bas
   in-range-turn = rw (drop-subsets n j bases counts hn hb hc, base-of (getD bases j 0) (getD counts j 0) octet, count-of (getD bases j 0) (getD counts j 0) octet)
 
   pub mapped-sum-turn : mappedSum (drop j (subsetsTo n bases counts))
-      ≡ cond (dropped (getD bases j 0)) 0 (getD counts j 0) + mappedSum (drop (suc j) (subsetsTo n bases counts))
+      ≡ cond (mapped (getD bases j 0) (getD counts j 0)) (getD counts j 0) 0 + mappedSum (drop (suc j) (subsetsTo n bases counts))
   unfolding mappedSum
   mapped-sum-turn =
       rw (
@@ -83,7 +96,7 @@ module _ (mode : ℕ) (m : Mapping) (octets levels : List ℕ) where
   drawn-none f = (rw f, rw f)
 
   pub drawn-whole : (after : List ℕ) (n b : ℕ) → levelsFit m (length octets) ≡ true → length (m .subsets) ≡ 0 → b ≡ wholeBase m
-      → after ≡ putLevels mode b octets levels → n ≡ cond (dropped b) 0 (length octets)
+      → after ≡ putLevels mode b octets levels → n ≡ cond (mapped b (length octets)) (length octets) 0
       → (after ≡ levelsDrawn mode m octets levels) × (n ≡ levelsCounted m (length octets))
   unfolding levelsDrawn levelsCounted levelsAfter levelsWritten
   drawn-whole after n b f e g a k = (rw (f, e, ← g) a, rw (f, e, ← g) k)

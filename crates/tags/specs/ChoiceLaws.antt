@@ -39,10 +39,6 @@ first-zero-left (suc n) m p = rw (eqb·suc-zero n) at p
 pub first-zero-right : (n m : ℕ) → first n m ≡ 0 → m ≡ 0
 first-zero-right n m p = rw (eq-eqb n 0 (first-zero-left n m p)) at p
 
--- a check that refuses ends the row
-pub first-refuses : (n m : ℕ) → eqb n 0 ≡ false → first n m ≡ n
-first-refuses n m e = rw e
-
 -- check n that gives 0 did not hold
 pub refuse-zero : (b : Bool) (n : ℕ) → 0 < n → refuse b n ≡ 0 → b ≡ false
 refuse-zero true n h p = let z : n ≡ 0 = p in absurd (omega arith)

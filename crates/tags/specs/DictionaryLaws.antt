@@ -1,19 +1,17 @@
--- Laws of the dictionary check: a sample is within the limits of octets and colours, and has at least one octet where the dictionary is
--- accepted.
+-- Laws of the dictionary check: a sample is within the limits of octets and colours.
 use Prim.Native.Nat.{ℕ, zero, suc, _≤_}
 use mathlib.Core.Bool.{Bool, true, false, cond, not, _&&_, _||_}
 use mathlib.Core.List.{List, [], _∷_, _++_}
 use mathlib.Core.Path.{_≡_, refl}
 use native.Mathlib.Omega.{arith}
-use borrow.Author.Tests.{ltb-true, leb-false, eqb-true, eq-eqb, not-false}
+use borrow.Author.Tests.{leb-false, eqb-true}
 use lib.ListN.{length, length-append}
 use lib.Dec.{leb, eqb, lit≤}
-use Rattle.samples.specs.Roles.{has, placeOf, firstOf}
 use Rattle.tags.specs.Limits.{octetLimit, colourLimit}
 use Rattle.tags.specs.Choice.{refuse, first}
 use Rattle.tags.specs.ChoiceLaws.{or-false-left, or-false-right, first-zero-right, refuse-zero}
 use Rattle.tags.specs.Tag.{takesOctet, definedGroup, knownTag, isColour, wavelength}
-use Rattle.tags.specs.Dictionary.{Sample, DictionaryWalk, misplaced, repeated, tagNumber, roleFor, sampleWith, read, step, walked, wordCount, incomplete, endNumber, dictionaryNumber, dictionarySample}
+use Rattle.tags.specs.Dictionary.{Sample, DictionaryWalk, misplaced, repeated, tagNumber, roleFor, sampleWith, read, step, walked, wordCount, dictionaryNumber, dictionarySample}
 
 -- ---- tests
 
@@ -95,23 +93,6 @@ unfolding walked
 walked-kept mode tags zero = record { octets = lit≤ tt; colours = lit≤ tt }
 walked-kept mode tags (suc i) = step-kept mode _ _ _ (walked-kept mode tags i)
 
--- ---- the end
-
--- X is there
-complete-octets : (s : Sample) → incomplete s ≡ false → 1 ≤ length (s .roles)
-unfolding incomplete
-complete-octets s p =
-    let x : has (s .roles) (firstOf 0) ≡ true = not-false _ (or-false-left _ _ (or-false-left _ _ p)) in
-    omega (arith, ltb-true (placeOf (firstOf 0) (s .roles)) (length (s .roles)) x)
-
-ended-complete : (s : DictionaryWalk) → endNumber s ≡ 0 → incomplete (s .sample) ≡ false
-unfolding endNumber
-ended-complete s p =
-    let unfinished = refuse (s .allowed .waiting) 10 in
-    let missing = refuse (incomplete (s .sample)) 12 in
-    refuse-zero (incomplete (s .sample)) 12 (lit≤ tt)
-    (first-zero-right unfinished missing (first-zero-right (s .refusal) (first unfinished missing) p))
-
 -- ---- the dictionary
 
 module _ (mode : ℕ) (tags : List ℕ) where
@@ -128,9 +109,3 @@ module _ (mode : ℕ) (tags : List ℕ) where
       cond-holds (λ (s : Sample). length (s .waves) ≤ colourLimit) (eqb (dictionaryNumber mode tags) 0)
       (λ _. walked-kept mode tags (wordCount tags) .colours)
       (λ _. lit≤ tt)
-
-  pub accepted-octets : dictionaryNumber mode tags ≡ 0 → 1 ≤ length (dictionarySample mode tags .roles)
-  unfolding dictionarySample dictionaryNumber
-  accepted-octets p =
-      rw (eq-eqb (dictionaryNumber mode tags) 0 p)
-      (complete-octets (walked mode tags (wordCount tags) .sample) (ended-complete (walked mode tags (wordCount tags)) p))

@@ -1,5 +1,7 @@
--- How the record that the walk over dimmer tags carries is read, and what holds of its mapping all along.
-use mathlib.Core.List.{map}
+-- How the record that the walk over dimmer tags carries is read. The arrays that it fills stand beside it and are written in place; what
+-- holds of them all along is said here too.
+use Prim.Native.Nat.{ℕ}
+use mathlib.Core.List.{List, map}
 use mathlib.Core.Path.{_≡_}
 use Rattle.tags.specs.Limits.{subsetLimit}
 use Rattle.tags.specs.Dimmer.{Mapping, baseOf, countOf, DimmerWalk}
@@ -7,8 +9,9 @@ use Rattle.tags.specs.Layout.{mappingOf, padded, DimmerWithin}
 use Rattle.tags.specs.declared.Dimmer as declaredDimmer
 use Rattle.tags.specs.declared.dimming.DimmerWalk as declaredWalk
 
-abbrev pub dimmerWalkOf : declaredWalk.DimmerWalk → DimmerWalk
-dimmerWalkOf s = record { refusal = s .refusal; skip = s .skip; mapping = mappingOf (s .dimmer) }
+-- the dimmer record gathered so far
+abbrev pub gathered : declaredWalk.DimmerWalk → List ℕ → List ℕ → declaredDimmer.Dimmer
+gathered p bases counts = record { bases = bases; counts = counts; base = p .base; count = p .count }
 
 -- the count of the mapping is within its arrays, and the arrays hold its subsets and 0 after them
 abbrev pub DimmerFilled : declaredDimmer.Dimmer → Type 0

@@ -1,13 +1,11 @@
 -- How the records that hold a dictionary and dimmer tags are read: by what they mean, so that the promises need not know how they
--- are laid out; which record holds a sample or a mapping; and the tests that a kept one is held to.
+-- are laid out; and which record holds a sample or a mapping.
 use Prim.Native.Nat.{ℕ, _+_, _-_, _*_, _≤_}
-use mathlib.Core.Bool.{Bool, _&&_}
 use mathlib.Core.List.{List, [], _∷_, _++_, map}
 use lib.ListN.{length, take, replicate}
-use lib.Dec.{leb}
 use Rattle.tags.specs.Limits.{octetLimit, colourLimit, subsetLimit}
 use Rattle.tags.specs.Dictionary.{Sample, noSample, dictionaryNumber, dictionarySample, hostNumber, hostSample}
-use Rattle.tags.specs.Dimmer.{Mapping, noMapping, baseOf, countOf, mappingInRange, dimmerNumber, dimmerMapping}
+use Rattle.tags.specs.Dimmer.{Mapping, noMapping, baseOf, countOf, dimmerNumber, dimmerMapping}
 use Rattle.tags.specs.declared.Layout as declared
 use Rattle.tags.specs.declared.Dimmer as declaredDimmer
 use Rattle.tags.specs.declared.Checked as declaredChecked
@@ -73,30 +71,6 @@ hostChecked mode tags = record { number = hostNumber mode tags; layout = layoutO
 abbrev pub dimmerMapped : List ℕ → declaredMapped.Mapped
 dimmerMapped tags = record { number = dimmerNumber tags; dimmer = dimmerOf (dimmerMapping tags) }
 
--- ---- for a layer that keeps such records
-
--- what a reading past an array of them gives
-abbrev pub blankLayout : declared.Layout
-blankLayout = record { roles = []; waves = []; space = 0; width = 0; colours = 0 }
-
-abbrev pub blankDimmer : declaredDimmer.Dimmer
-blankDimmer = record { bases = []; counts = []; base = 0; count = 0 }
-
--- the counts are within the arrays
-abbrev pub LayoutWithin : declared.Layout → Type 0
-LayoutWithin l = (l .width ≤ octetLimit) × (l .colours ≤ colourLimit)
-
+-- the count of a dimmer record is within its arrays
 abbrev pub DimmerWithin : declaredDimmer.Dimmer → Type 0
 DimmerWithin d = d .count ≤ subsetLimit
-
--- The tests that a kept record is held to: counts within their arrays, and the base and each subset of a mapping in range. What the
--- checks of tags leave passes (specs/LayoutLaws.antt), but more passes: subsets that overlap, or a base beside subsets.
-unfoldable pub layoutSound : declared.Layout → Bool
-layoutSound l = leb (l .width) octetLimit && leb (l .colours) colourLimit
-
-unfoldable pub dimmerSound : declaredDimmer.Dimmer → Bool
-dimmerSound d = leb (d .count) subsetLimit && mappingInRange (mappingOf d)
-
--- a sample has an octet
-unfoldable pub hasOctets : declared.Layout → Bool
-hasOctets l = leb 1 (l .width)

@@ -29,10 +29,15 @@ levelsFit m n =
 abbrev pub placeOfLevel : ℕ → ℕ → ℕ
 placeOfLevel mode b = cond (eqb mode 6) (511 + b) (b - 1)
 
--- the levels with `part` written from level number b on; nothing for FFFF, nor where the part would pass the end
+-- n levels from level number b on are all of 1 to 512, and so have places. FFFF, which drops its octets, is none of them; a base or a count
+-- that checks 13 and 21 would refuse, as only a record that a host made holds, maps nothing.
+abbrev pub mapped : ℕ → ℕ → Bool
+mapped b n = leb 1 b && leb (b + n) levelEnd
+
+-- the levels with `part` written from level number b on; nothing where it is not mapped, nor where it would pass the end of what is lent
 unfoldable pub putLevels : ℕ → ℕ → List ℕ → List ℕ → List ℕ
 putLevels mode b part levels =
-    cond (not (dropped b) && leb (placeOfLevel mode b + length part) (length levels))
+    cond (mapped b (length part) && leb (placeOfLevel mode b + length part) (length levels))
     (take (placeOfLevel mode b) levels ++ part ++ drop (placeOfLevel mode b + length part) levels)
     levels
 
@@ -49,15 +54,16 @@ levelsAfter mode m octets levels =
     (putLevels mode (wholeBase m) octets levels)
     (putSubsets mode (m .subsets) octets levels)
 
--- how many octets the 43s map, "dropped ones don't count as written"
+-- how many octets the 43s map: "dropped ones don't count as written". Of mappings in range they are all but the dropped ones
+-- (specs/LevelsLaws.antt).
 unfoldable pub mappedSum : List ℕ → ℕ
 mappedSum [] = 0
-mappedSum (e ∷ es) = cond (dropped (baseOf e)) 0 (countOf e) + mappedSum es
+mappedSum (e ∷ es) = cond (mapped (baseOf e) (countOf e)) (countOf e) 0 + mappedSum es
 
 -- levels written, of n levels in the chunk
 unfoldable pub levelsWritten : Mapping → ℕ → ℕ
 levelsWritten m n =
-    cond (eqb (length (m .subsets)) 0) (cond (dropped (wholeBase m)) 0 n) (mappedSum (m .subsets))
+    cond (eqb (length (m .subsets)) 0) (cond (mapped (wholeBase m) n) n 0) (mappedSum (m .subsets))
 
 -- ---- what the writing of levels does, check 21 included: where the octets do not fit, nothing is written and 0 are counted
 

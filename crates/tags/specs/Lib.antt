@@ -8,6 +8,8 @@ pub mod Dimmer
 pub mod DimmerLaws
 pub mod Layout
 pub mod LayoutLaws
+pub mod Kept
+pub mod KeptLaws
 pub mod DictionaryView
 pub mod DimmerView
 pub mod Rows

@@ -10,9 +10,14 @@ use super::limits::COLOUR_LIMIT;
 use super::limits::OCTET_LIMIT;
 use super::tag;
 ghost use mathlib.Core.Path.{_≡_};
-ghost use Rattle.tags.specs.Dictionary.{misplaced, repeated, tagNumber, read, step, incomplete, endNumber};
-ghost use Rattle.tags.specs.Layout.{sampleOf, LayoutWithin, dictionaryChecked};
-ghost use Rattle.tags.specs.DictionaryView.{allowedOf, dictionaryWalkOf, LayoutFilled};
+ghost use mathlib.Core.Bool.{false, _&&_, _||_};
+ghost use Prim.Native.Nat.{_≤_};
+ghost use lib.ListN.{length, take};
+ghost use Rattle.samples.specs.Roles.{firstOf, hintOf, has};
+ghost use Rattle.tags.specs.Tag.{isHint, isSingle, slotFor};
+ghost use Rattle.tags.specs.Dictionary.{misplaced, repeated, tagNumber, incomplete, endNumber};
+ghost use Rattle.tags.specs.Layout.{sampleOf, emptyLayout, dictionaryChecked};
+ghost use Rattle.tags.specs.DictionaryView.{allowedOf, gathered, dictionaryWalkOf, AnyWaves, WalkFilled, wordNumber, advanced};
 
 // ---- checks 10 and 11
 
@@ -29,26 +34,47 @@ fn misplaced(left: usize, w: u16, a: Allowed) -> bool
     a.waiting | (left < tag::skipped_by(w) as usize)
 }
 
-// Check 11. An octet or a colour too many is refused here, so a tag that passes has room in the layout.
-fn repeated(w: u16, l: Layout) -> bool
-    requires { ⌜ LayoutWithin l ⌝ }
-    ensures { λ r. ⌜ r ≡ repeated w (sampleOf l) ⌝ }
+// A signal of which a dictionary has one at most is there already. Other tags need no search, so too below.
+fn signal_again(w: u16, roles: &[u8], width: u8) -> bool
+    requires { ⌜ width ≤ length (now roles) ⌝ }
+    ensures { λ r. ⌜ r ≡ (isSingle w && has (take width (now (roles .entry))) (firstOf (slotFor w 0))) ⌝ }
 {
-    let roles = l.roles;
-    let slot = tag::slot_for(w, 0);
-    let hint = gather::has_role(roles, l.width, gather::HINT)
-        | gather::has_role(roles, l.width, gather::HINT_WITH_SHUTTER);
-    (tag::takes_octet(w) & (OCTET_LIMIT <= l.width as usize))
-        | (tag::is_colour(w) & (COLOUR_LIMIT <= l.colours as usize))
-        | (tag::is_single(w) & gather::has_role(roles, l.width, slot + gather::FIRST_OCTET))
-        | ((w / 2 == tag::HINTS) & hint)
-        | ((w / 256 == tag::SPACE) & !(l.space == 0))
+    let single = tag::is_single(w);
+    if !single {
+        return false;
+    }
+    gather::has_role(roles, width, tag::slot_for(w, 0) + gather::FIRST_OCTET)
+}
+
+// A hint, of either format, is there already.
+fn hint_again(w: u16, roles: &[u8], width: u8) -> bool
+    requires { ⌜ width ≤ length (now roles) ⌝ }
+    ensures { λ r. ⌜ r ≡ (isHint w && (has (take width (now (roles .entry))) (hintOf 0) || has (take width (now (roles .entry))) (hintOf 1))) ⌝ }
+{
+    let hint = w / 2 == tag::HINTS;
+    if !hint {
+        return false;
+    }
+    gather::has_role(roles, width, gather::HINT)
+        | gather::has_role(roles, width, gather::HINT_WITH_SHUTTER)
+}
+
+// Check 11. An octet or a colour too many is refused here, so a tag that passes has room in the arrays.
+fn repeated(w: u16, p: DictionaryWalk, roles: &[u8]) -> bool
+    requires { ⌜ p .width ≤ length (now roles) ⌝ }
+    ensures { λ r. ⌜ AnyWaves p (λ waves. r ≡ repeated w (sampleOf (gathered p (now (roles .entry)) waves))) ⌝ }
+{
+    (tag::takes_octet(w) & (OCTET_LIMIT <= p.width as usize))
+        | (tag::is_colour(w) & (COLOUR_LIMIT <= p.colours as usize))
+        | signal_again(w, roles, p.width)
+        | hint_again(w, roles, p.width)
+        | ((w / 256 == tag::SPACE) & !(p.space == 0))
 }
 
 // The number that refuses tag w, 0 where it passes. `left` words stand after it.
-fn tag_number(mode: u8, left: usize, w: u16, p: DictionaryWalk) -> u8
-    requires { ⌜ LayoutFilled (p .layout) ⌝ }
-    ensures { λ r. ⌜ r ≡ tagNumber mode left w (dictionaryWalkOf p) ⌝ }
+fn tag_number(mode: u8, left: usize, w: u16, p: DictionaryWalk, roles: &[u8]) -> u8
+    requires { ⌜ p .width ≤ length (now roles) ⌝ }
+    ensures { λ r. ⌜ AnyWaves p (λ waves. r ≡ tagNumber mode left w (dictionaryWalkOf p (now (roles .entry)) waves)) ⌝ }
 {
     let defined = tag::defined_group(w);
     if !defined {
@@ -63,8 +89,7 @@ fn tag_number(mode: u8, left: usize, w: u16, p: DictionaryWalk) -> u8
     if wrong {
         return 10;
     }
-    let layout = p.layout;
-    let again = repeated(w, layout);
+    let again = repeated(w, p, roles);
     if again {
         return 11;
     }
@@ -73,98 +98,106 @@ fn tag_number(mode: u8, left: usize, w: u16, p: DictionaryWalk) -> u8
 
 // ---- the walk
 
-// The walk with tag w read, after which `left` words stand.
-fn read(mode: u8, left: usize, w: u16, p: DictionaryWalk) -> DictionaryWalk
-    requires { ⌜ LayoutFilled (p .layout) ⌝ }
-    ensures { λ r. ⌜ dictionaryWalkOf r ≡ read mode left w (dictionaryWalkOf p) ⌝ }
-    ensures { λ r. ⌜ LayoutFilled (r .layout) ⌝ }
+// The number that refuses word w; a word that a Void skips is not read.
+fn word_number(mode: u8, left: usize, w: u16, p: DictionaryWalk, roles: &[u8]) -> u8
+    requires { ⌜ p .width ≤ length (now roles) ⌝ }
+    ensures { λ r. ⌜ AnyWaves p (λ waves. r ≡ wordNumber mode left w (dictionaryWalkOf p (now (roles .entry)) waves)) ⌝ }
 {
-    let number = tag_number(mode, left, w, p);
-    let passes = number == 0;
-    if passes {
-        let layout = gather::layout_with(w, p);
-        let allowed = gather::allowed_after(w, p);
-        let skip = tag::skipped_by(w);
-        return DictionaryWalk {
-            layout,
-            skip,
-            refusal: 0,
-            allowed,
-        };
+    if p.skip == 0 {
+        return tag_number(mode, left, w, p, roles);
     }
-    gather::nothing_read(number)
+    0
 }
 
-// One word more: a refusal stays, a word that a Void skips is not read.
-fn step(mode: u8, left: usize, w: u16, p: DictionaryWalk) -> DictionaryWalk
-    requires { ⌜ LayoutFilled (p .layout) ⌝ }
-    ensures { λ r. ⌜ dictionaryWalkOf r ≡ step mode left w (dictionaryWalkOf p) ⌝ }
-    ensures { λ r. ⌜ LayoutFilled (r .layout) ⌝ }
+// The walk past word w, which passes.
+fn advance(w: u16, p: DictionaryWalk, roles: &mut [u8], waves: &mut [u16]) -> DictionaryWalk
+    requires { ⌜ WalkFilled p (now roles) (now waves) ⌝ }
+    requires { ⌜ (p .skip ≡ 0 → repeated w (sampleOf (gathered p (now roles) (now waves))) ≡ false) ⌝ }
+    ensures { λ r. ⌜ dictionaryWalkOf r (now (roles .exit)) (now (waves .exit)) ≡ advanced w (dictionaryWalkOf p (now (roles .entry)) (now (waves .entry))) ⌝ }
+    ensures { λ r. ⌜ WalkFilled r (now (roles .exit)) (now (waves .exit)) ⌝ }
 {
-    if p.refusal == 0 {
-        if p.skip == 0 {
-            return read(mode, left, w, p);
-        }
-        let mut next = p;
-        next.skip = p.skip - 1;
-        return next;
+    if p.skip == 0 {
+        let role = gather::role_for(w, p);
+        let allowed = gather::allowed_after(w, p);
+        let width = gather::put_role(w, role, p.width, roles);
+        let colours = gather::put_wave(w, p.colours, waves);
+        return DictionaryWalk {
+            skip: tag::skipped_by(w),
+            allowed,
+            width,
+            colours,
+            space: gather::space_with(w, p.space),
+        };
     }
-    p
+    let mut next = p;
+    next.skip = p.skip - 1;
+    next
 }
 
 // ---- the end
 
 // Check 12.
-fn incomplete(l: Layout) -> bool
-    requires { ⌜ LayoutWithin l ⌝ }
-    ensures { λ r. ⌜ r ≡ incomplete (sampleOf l) ⌝ }
+fn incomplete(p: DictionaryWalk, roles: &[u8]) -> bool
+    requires { ⌜ p .width ≤ length (now roles) ⌝ }
+    ensures { λ r. ⌜ AnyWaves p (λ waves. r ≡ incomplete (sampleOf (gathered p (now (roles .entry)) waves))) ⌝ }
 {
-    let roles = l.roles;
-    !gather::has_role(roles, l.width, gather::X)
-        | !gather::has_role(roles, l.width, gather::Y)
-        | (l.colours == 0)
+    !gather::has_role(roles, p.width, gather::X)
+        | !gather::has_role(roles, p.width, gather::Y)
+        | (p.colours == 0)
 }
 
-// The number of the whole dictionary: the first tag's that is refused, else an unfinished prefix's, else check 12's.
-fn end_number(p: DictionaryWalk) -> u8
-    requires { ⌜ LayoutFilled (p .layout) ⌝ }
-    ensures { λ r. ⌜ r ≡ endNumber (dictionaryWalkOf p) ⌝ }
+// The number of a dictionary of which no tag is refused: an unfinished prefix's, else check 12's.
+fn end_number(p: DictionaryWalk, roles: &[u8]) -> u8
+    requires { ⌜ p .width ≤ length (now roles) ⌝ }
+    ensures { λ r. ⌜ AnyWaves p (λ waves. r ≡ endNumber (dictionaryWalkOf p (now (roles .entry)) waves)) ⌝ }
 {
-    let layout = p.layout;
-    let missing = incomplete(layout);
     let unfinished = p.allowed.waiting;
-    if p.refusal == 0 {
-        if unfinished {
-            return 10;
-        }
-        if missing {
-            return 12;
-        }
-        return 0;
+    if unfinished {
+        return 10;
     }
-    p.refusal
+    let missing = incomplete(p, roles);
+    if missing {
+        return 12;
+    }
+    0
 }
 
-// The dictionary check. The walk goes on after a refusal, which stays.
+// A refusal, with a layout that says nothing.
+pub fn refused(number: u8) -> Checked
+    ensures { λ r. ⌜ r ≡ record { number = number; layout = emptyLayout } ⌝ }
+{
+    let layout = no_layout();
+    Checked { number, layout }
+}
+
+// The dictionary check: the first word that is refused ends the walk.
 pub fn check(mode: u8, tags: &[u8]) -> Checked
     ensures { λ r. ⌜ r ≡ dictionaryChecked mode (now (tags .entry)) ⌝ }
 {
     let words = tags.len() / 2;
-    let mut p = gather::nothing_read(0);
+    let mut roles = [0u8; OCTET_LIMIT];
+    let mut waves = [0u16; COLOUR_LIMIT];
+    let mut p = gather::nothing_read();
     let mut i: usize = 0;
     while i < words {
         let w = tag::word(tags[i * 2], tags[i * 2 + 1]);
-        p = step(mode, words - (i + 1), w, p);
+        let number = word_number(mode, words - (i + 1), w, p, &roles);
+        if number != 0 {
+            return refused(number);
+        }
+        p = advance(w, p, &mut roles, &mut waves);
         i += 1;
     }
-    let number = end_number(p);
-    let accepted = number == 0;
-    if accepted {
-        let layout = p.layout;
-        return Checked { number, layout };
+    let number = end_number(p, &roles);
+    if number != 0 {
+        return refused(number);
     }
-    Checked {
-        number,
-        layout: no_layout(),
-    }
+    let layout = Layout {
+        roles,
+        waves,
+        space: p.space,
+        width: p.width,
+        colours: p.colours,
+    };
+    Checked { number, layout }
 }

@@ -1,5 +1,5 @@
-// Dimmer tags, checks 13 and 14 (document 01, "Dimmer tags, modes 4 and 6"). The octets are taken one by one: a tag says how many
-// octets after it are its own, and these are passed over. specs/Dimmer.antt has the same walk as definitions.
+// Dimmer tags, checks 13 and 14 (document 01, "Dimmer tags, modes 4 and 6"). A tag says how many octets after it are its own, and the walk
+// goes from tag to tag. specs/Dimmer.antt has the same walk as definitions, octet by octet.
 use crate::Dimmer;
 use crate::Mapped;
 use crate::kept::no_dimmer;
@@ -11,15 +11,15 @@ ghost use mathlib.Core.Path.{_≡_};
 ghost use mathlib.Core.Bool.{false};
 ghost use Prim.Native.Nat.{_+_, _*_, _<_, _≤_};
 ghost use lib.ListN.{length, getD};
-ghost use Rattle.tags.specs.Dimmer.{nothingMapped, stepDimmer, readDimmer, badDimmerTag, clashingTag, mappingWith, overlap, overlapsAny, pairAt, baseInRange, countInRange};
-ghost use Rattle.tags.specs.Layout.{mappingOf, DimmerWithin, dimmerMapped};
-ghost use Rattle.tags.specs.DimmerView.{dimmerWalkOf, DimmerFilled, unread};
+ghost use Rattle.tags.specs.Dimmer.{badDimmerTag, clashingTag, dimmerTagNumber, mappingWith, overlap, overlapsAny, pairAt, baseInRange, countInRange};
+ghost use Rattle.tags.specs.Layout.{mappingOf, emptyDimmer, dimmerMapped};
+ghost use Rattle.tags.specs.DimmerView.{gathered, DimmerFilled};
 
-// The walk: the refusal, 0 so far; how many octets are still to be passed over; what the tags so far say.
+// What the tags so far say: the base of a 42, 0 without one, and how many subsets there are. The arrays of the subsets' bases and counts
+// stand beside it, so that a 43 writes one element of each and moves nothing.
 struct DimmerWalk {
-    refusal: u8,
-    skip: u8,
-    dimmer: Dimmer,
+    base: u16,
+    count: u8,
 }
 
 // octet i, 0 past the end: so that each test of a tag stands by itself
@@ -81,120 +81,100 @@ fn share(base: u16, count: u8, other: u16, others: u8) -> bool
 }
 
 // whether a subset shares a level with one of the subsets so far
-fn shares_any(base: u16, count: u8, dimmer: Dimmer) -> bool
-    requires { ⌜ DimmerWithin dimmer ⌝ }
-    ensures { λ r. ⌜ r ≡ overlapsAny (base * 256 + count) (mappingOf dimmer .subsets) ⌝ }
+fn shares_any(base: u16, count: u8, p: DimmerWalk, bases: &[u16], counts: &[u8]) -> bool
+    requires { ⌜ DimmerFilled (gathered p (now bases) (now counts)) ⌝ }
+    ensures { λ r. ⌜ r ≡ overlapsAny (base * 256 + count) (mappingOf (gathered p (now (bases .entry)) (now (counts .entry))) .subsets) ⌝ }
 {
-    let n = dimmer.count as usize;
+    let n = p.count as usize;
     let mut hit = false;
     let mut j: usize = 0;
     while j < n {
-        hit = hit | share(base, count, dimmer.bases[j], dimmer.counts[j]);
+        hit = hit | share(base, count, bases[j], counts[j]);
         j += 1;
     }
     hit
 }
 
-// check 14 at the tag in place i
-fn clashes(tags: &[u8], i: usize, dimmer: Dimmer) -> bool
-    requires { ⌜ (i < length (now tags)) × DimmerWithin dimmer ⌝ }
-    ensures { λ r. ⌜ r ≡ clashingTag (now (tags .entry)) i (mappingOf dimmer) ⌝ }
+// check 14 at the tag in place i; only a 43 is held against the subsets so far
+fn clashes(tags: &[u8], i: usize, p: DimmerWalk, bases: &[u16], counts: &[u8]) -> bool
+    requires { ⌜ (i < length (now tags)) × DimmerFilled (gathered p (now bases) (now counts)) ⌝ }
+    ensures { λ r. ⌜ r ≡ clashingTag (now (tags .entry)) i (mappingOf (gathered p (now (bases .entry)) (now (counts .entry)))) ⌝ }
 {
     let tag = tags[i];
-    let whole = !(dimmer.base == 0);
-    let count = dimmer.count;
-    let hit = shares_any(pair_at(tags, i + 1), at(tags, i + 3), dimmer);
-    (tag == 0x42) & (whole | (0 < count))
-        | (tag == 0x43) & (whole | (SUBSET_LIMIT <= count as usize) | hit)
+    let whole = !(p.base == 0);
+    if tag == 0x43 {
+        let hit = shares_any(pair_at(tags, i + 1), at(tags, i + 3), p, bases, counts);
+        return whole | (SUBSET_LIMIT <= p.count as usize) | hit;
+    }
+    (tag == 0x42) & (whole | (0 < p.count))
 }
 
-// what the tags say with the tag in place i, which passes both checks
-fn with(tags: &[u8], i: usize, dimmer: Dimmer) -> Dimmer
-    requires { ⌜ (i < length (now tags)) × DimmerFilled dimmer ⌝ }
-    requires { ⌜ clashingTag (now tags) i (mappingOf dimmer) ≡ false ⌝ }
-    ensures { λ r. ⌜ mappingOf r ≡ mappingWith (now (tags .entry)) i (mappingOf dimmer) ⌝ }
-    ensures { λ r. ⌜ DimmerFilled r ⌝ }
+// the number that refuses the tag in place i, 0 where it passes
+fn tag_number(tags: &[u8], i: usize, p: DimmerWalk, bases: &[u16], counts: &[u8]) -> u8
+    requires { ⌜ (i < length (now tags)) × DimmerFilled (gathered p (now bases) (now counts)) ⌝ }
+    ensures { λ r. ⌜ r ≡ dimmerTagNumber (now (tags .entry)) i (mappingOf (gathered p (now (bases .entry)) (now (counts .entry)))) ⌝ }
+{
+    if bad(tags, i) {
+        return 13;
+    }
+    if clashes(tags, i, p, bases, counts) {
+        return 14;
+    }
+    0
+}
+
+// what the tags say with the tag in place i, which passes both checks: so a 43 has room
+fn with(tags: &[u8], i: usize, p: DimmerWalk, bases: &mut [u16], counts: &mut [u8]) -> DimmerWalk
+    requires { ⌜ (i < length (now tags)) × DimmerFilled (gathered p (now bases) (now counts)) ⌝ }
+    requires { ⌜ clashingTag (now tags) i (mappingOf (gathered p (now bases) (now counts))) ≡ false ⌝ }
+    ensures { λ r. ⌜ mappingOf (gathered r (now (bases .exit)) (now (counts .exit))) ≡ mappingWith (now (tags .entry)) i (mappingOf (gathered p (now (bases .entry)) (now (counts .entry)))) ⌝ }
+    ensures { λ r. ⌜ DimmerFilled (gathered r (now (bases .exit)) (now (counts .exit))) ⌝ }
 {
     let tag = tags[i];
-    let mut next = dimmer;
+    let mut next = p;
     if tag == 0x42 {
         next.base = pair_at(tags, i + 1);
         return next;
     }
     if tag == 0x43 {
-        let n = dimmer.count as usize;
-        next.bases[n] = pair_at(tags, i + 1);
-        next.counts[n] = at(tags, i + 3);
-        next.count = dimmer.count + 1;
+        let n = p.count as usize;
+        bases[n] = pair_at(tags, i + 1);
+        counts[n] = at(tags, i + 3);
+        next.count = p.count + 1;
         return next;
     }
     next
 }
 
-// the walk with nothing mapped: at its start with 0, and after a refusal with its number
-fn nothing_mapped(refusal: u8) -> DimmerWalk
-    ensures { λ r. ⌜ dimmerWalkOf r ≡ nothingMapped refusal ⌝ }
-    ensures { λ r. ⌜ DimmerFilled (r .dimmer) ⌝ }
+// a refusal, with a mapping that says nothing
+fn refused(number: u8) -> Mapped
+    ensures { λ r. ⌜ r ≡ record { number = number; dimmer = emptyDimmer } ⌝ }
 {
     let dimmer = no_dimmer();
-    DimmerWalk {
-        refusal,
-        skip: 0,
-        dimmer,
-    }
+    Mapped { number, dimmer }
 }
 
-// the tag in place i read
-fn read(tags: &[u8], i: usize, dimmer: Dimmer) -> DimmerWalk
-    requires { ⌜ (i < length (now tags)) × DimmerFilled dimmer ⌝ }
-    ensures { λ r. ⌜ dimmerWalkOf r ≡ readDimmer (now (tags .entry)) i (unread (mappingOf dimmer)) ⌝ }
-    ensures { λ r. ⌜ DimmerFilled (r .dimmer) ⌝ }
-{
-    if bad(tags, i) {
-        return nothing_mapped(13);
-    }
-    if clashes(tags, i, dimmer) {
-        return nothing_mapped(14);
-    }
-    let next = with(tags, i, dimmer);
-    DimmerWalk {
-        refusal: 0,
-        skip: tags[i] % 16,
-        dimmer: next,
-    }
-}
-
-// one octet more
-fn step(tags: &[u8], i: usize, s: DimmerWalk) -> DimmerWalk
-    requires { ⌜ (i < length (now tags)) × DimmerFilled (s .dimmer) ⌝ }
-    ensures { λ r. ⌜ dimmerWalkOf r ≡ stepDimmer (now (tags .entry)) i (dimmerWalkOf s) ⌝ }
-    ensures { λ r. ⌜ DimmerFilled (r .dimmer) ⌝ }
-{
-    if s.refusal != 0 {
-        return s;
-    }
-    if s.skip == 0 {
-        let dimmer = s.dimmer;
-        return read(tags, i, dimmer);
-    }
-    let mut next = s;
-    next.skip = s.skip - 1;
-    next
-}
-
-// The tags of a configuration in mode 4 or 6: the refusal, 13 or 14, or what they say.
+// The tags of a configuration in mode 4 or 6: the refusal, 13 or 14, of the first tag that is refused, or what they say.
 pub fn check(tags: &[u8]) -> Mapped
     ensures { λ r. ⌜ r ≡ dimmerMapped (now (tags .entry)) ⌝ }
 {
-    let mut s = nothing_mapped(0);
-    let mut i = 0;
+    let mut bases = [0u16; SUBSET_LIMIT];
+    let mut counts = [0u8; SUBSET_LIMIT];
+    let mut p = DimmerWalk { base: 0, count: 0 };
+    let mut i: usize = 0;
     while i < tags.len() {
-        s = step(tags, i, s);
-        i += 1;
+        let number = tag_number(tags, i, p, &bases, &counts);
+        if number != 0 {
+            return refused(number);
+        }
+        p = with(tags, i, p, &mut bases, &mut counts);
+        i += 1 + (tags[i] % 16) as usize;
     }
-    let dimmer = s.dimmer;
-    Mapped {
-        number: s.refusal,
-        dimmer,
-    }
+    let dimmer = Dimmer {
+        bases,
+        counts,
+        base: p.base,
+        count: p.count,
+    };
+    Mapped { number: 0, dimmer }
 }

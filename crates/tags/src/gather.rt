@@ -1,19 +1,16 @@
 // What the tags read so far say, and how a tag that passes adds to it. specs/DictionaryView.antt says how the records are read.
-use super::Layout;
-use super::kept::no_layout;
-use super::limits::OCTET_LIMIT;
 use super::tag;
 ghost use mathlib.Core.Path.{_≡_};
-ghost use mathlib.Core.Bool.{false, _&&_};
-ghost use Prim.Native.Nat.{_≤_};
-ghost use lib.ListN.{take};
+ghost use mathlib.Core.Bool.{false, cond, _&&_};
+ghost use mathlib.Core.List.{List, [], _∷_, _++_};
+ghost use Prim.Native.Nat.{ℕ, _≤_};
+ghost use lib.ListN.{length, take};
 ghost use lib.Dec.{leb};
 ghost use Rattle.samples.specs.Roles.{has};
 ghost use Rattle.tags.specs.Limits.{octetLimit, colourLimit};
-ghost use Rattle.tags.specs.Tag.{takesOctet, isColour};
-ghost use Rattle.tags.specs.Dictionary.{nothingRead, repeated, roleFor, sampleWith, allowedAfter};
-ghost use Rattle.tags.specs.Layout.{sampleOf, LayoutWithin};
-ghost use Rattle.tags.specs.DictionaryView.{allowedOf, dictionaryWalkOf, LayoutFilled, withRole, withWave, withSpace};
+ghost use Rattle.tags.specs.Tag.{takesOctet, isColour, isSpace, wavelength};
+ghost use Rattle.tags.specs.Dictionary.{nothingRead, roleFor, allowedAfter};
+ghost use Rattle.tags.specs.DictionaryView.{allowedOf, dictionaryWalkOf, AnyWaves, Filled};
 
 // What the tag directly before allows: whether a precision may stand here, and the role that its octet then has; and whether a prefix
 // waits for its 5000.
@@ -23,12 +20,14 @@ pub struct Allowed {
     pub waiting: bool,
 }
 
-// The walk so far: the refusal or 0, how many words a Void still skips, and what the tags read so far say.
+// The walk so far: how many words a Void still skips, what the tag before allows, and of the sample its octets, its colours and its space
+// modifier. The arrays of roles and wavelengths stand beside it, so that a tag writes one element and moves nothing.
 pub struct DictionaryWalk {
-    pub layout: Layout,
     pub skip: u16,
-    pub refusal: u8,
     pub allowed: Allowed,
+    pub width: u8,
+    pub colours: u8,
+    pub space: u16,
 }
 
 // Roles of octets, as the crate samples numbers them: an octet that nothing takes; the first octet of slot s has the role s +
@@ -50,28 +49,28 @@ pub const Y: u8 = 2;
 
 // ---- nothing read
 
-// The walk with nothing read: at its start with 0, and after a refusal with its number.
-pub fn nothing_read(refusal: u8) -> DictionaryWalk
-    ensures { λ r. ⌜ dictionaryWalkOf r ≡ nothingRead refusal ⌝ }
-    ensures { λ r. ⌜ LayoutFilled (r .layout) ⌝ }
+// The walk with nothing read.
+pub fn nothing_read() -> DictionaryWalk
+    ensures { λ r. ⌜ ((roles waves : List ℕ) → dictionaryWalkOf r roles waves ≡ nothingRead 0) ⌝ }
+    ensures { λ r. ⌜ (r .width ≡ 0) × (r .colours ≡ 0) ⌝ }
 {
-    let layout = no_layout();
     DictionaryWalk {
-        layout,
         skip: 0,
-        refusal,
         allowed: Allowed {
             precision: false,
             role: IGNORED,
             waiting: false,
         },
+        width: 0,
+        colours: 0,
+        space: 0,
     }
 }
 
 // Whether one of the first `width` octets has the role.
-pub fn has_role(roles: [u8; OCTET_LIMIT], width: u8, role: u8) -> bool
-    requires { ⌜ width ≤ octetLimit ⌝ }
-    ensures { λ r. ⌜ r ≡ has (take width roles) role ⌝ }
+pub fn has_role(roles: &[u8], width: u8, role: u8) -> bool
+    requires { ⌜ width ≤ length (now roles) ⌝ }
+    ensures { λ r. ⌜ r ≡ has (take width (now (roles .entry))) role ⌝ }
 {
     let n = width as usize;
     let mut found = false;
@@ -87,12 +86,12 @@ pub fn has_role(roles: [u8; OCTET_LIMIT], width: u8, role: u8) -> bool
 
 // The role of its octet.
 pub fn role_for(w: u16, p: DictionaryWalk) -> u8
-    requires { ⌜ LayoutWithin (p .layout) ⌝ }
-    ensures { λ r. ⌜ r ≡ roleFor w (dictionaryWalkOf p) ⌝ }
+    requires { ⌜ p .colours ≤ colourLimit ⌝ }
+    ensures { λ r. ⌜ AnyWaves p (λ waves. (roles : List ℕ) → r ≡ roleFor w (dictionaryWalkOf p roles waves)) ⌝ }
 {
     let signal = tag::is_signal(w);
     if signal {
-        return tag::slot_for(w, p.layout.colours) + FIRST_OCTET;
+        return tag::slot_for(w, p.colours) + FIRST_OCTET;
     }
     if w == tag::PRECISION {
         return p.allowed.role;
@@ -103,77 +102,57 @@ pub fn role_for(w: u16, p: DictionaryWalk) -> u8
     IGNORED
 }
 
-// The layout with the tag's octet, of the given role. Check 11 has refused one too many, so the array has room.
-pub fn with_role(w: u16, role: u8, l: Layout) -> Layout
-    requires { ⌜ LayoutFilled l ⌝ }
-    requires { ⌜ (takesOctet w && leb octetLimit (l .width)) ≡ false ⌝ }
-    ensures { λ r. ⌜ sampleOf r ≡ withRole w role (sampleOf l) ⌝ }
-    ensures { λ r. ⌜ LayoutFilled r × (r .colours ≡ l .colours) ⌝ }
+// Its octet's role stored after the others, and how many there are then. Check 11 has refused one too many, so the array has room.
+pub fn put_role(w: u16, role: u8, width: u8, roles: &mut [u8]) -> u8
+    requires { ⌜ Filled octetLimit width (now roles) ⌝ }
+    requires { ⌜ (takesOctet w && leb octetLimit width) ≡ false ⌝ }
+    ensures { λ r. ⌜ take r (now (roles .exit)) ≡ cond (takesOctet w) (take width (now (roles .entry)) ++ (role ∷ [])) (take width (now (roles .entry))) ⌝ }
+    ensures { λ r. ⌜ Filled octetLimit r (now (roles .exit)) ⌝ }
 {
     let takes = tag::takes_octet(w);
     if takes {
-        let mut next = l;
-        let at = l.width as usize;
-        next.roles[at] = role;
-        next.width = l.width + 1;
-        return next;
+        let at = width as usize;
+        roles[at] = role;
+        return width + 1;
     }
-    l
+    width
 }
 
-// The layout with the tag's colour. Check 11 has refused one too many, so the array has room.
-pub fn with_wave(w: u16, l: Layout) -> Layout
-    requires { ⌜ LayoutFilled l ⌝ }
-    requires { ⌜ (isColour w && leb colourLimit (l .colours)) ≡ false ⌝ }
-    ensures { λ r. ⌜ sampleOf r ≡ withWave w (sampleOf l) ⌝ }
-    ensures { λ r. ⌜ LayoutFilled r ⌝ }
+// The wavelength of its colour stored after the others, likewise.
+pub fn put_wave(w: u16, colours: u8, waves: &mut [u16]) -> u8
+    requires { ⌜ Filled colourLimit colours (now waves) ⌝ }
+    requires { ⌜ (isColour w && leb colourLimit colours) ≡ false ⌝ }
+    ensures { λ r. ⌜ take r (now (waves .exit)) ≡ cond (isColour w) (take colours (now (waves .entry)) ++ (wavelength w ∷ [])) (take colours (now (waves .entry))) ⌝ }
+    ensures { λ r. ⌜ Filled colourLimit r (now (waves .exit)) ⌝ }
 {
     let colour = tag::is_colour(w);
     if colour {
-        let mut next = l;
-        let at = l.colours as usize;
-        next.waves[at] = w % 1024;
-        next.colours = l.colours + 1;
-        return next;
+        let at = colours as usize;
+        waves[at] = w % 1024;
+        return colours + 1;
     }
-    l
+    colours
 }
 
-// The layout with the tag's space modifier.
-pub fn with_space(w: u16, l: Layout) -> Layout
-    requires { ⌜ LayoutFilled l ⌝ }
-    ensures { λ r. ⌜ sampleOf r ≡ withSpace w (sampleOf l) ⌝ }
-    ensures { λ r. ⌜ LayoutFilled r ⌝ }
+// The space modifier with it.
+pub fn space_with(w: u16, space: u16) -> u16
+    ensures { λ r. ⌜ r ≡ cond (isSpace w) w space ⌝ }
 {
     if w / 256 == tag::SPACE {
-        let mut next = l;
-        next.space = w;
-        return next;
+        return w;
     }
-    l
-}
-
-// What the sample is with it.
-pub fn layout_with(w: u16, p: DictionaryWalk) -> Layout
-    requires { ⌜ LayoutFilled (p .layout) ⌝ }
-    requires { ⌜ repeated w (sampleOf (p .layout)) ≡ false ⌝ }
-    ensures { λ r. ⌜ sampleOf r ≡ sampleWith w (dictionaryWalkOf p) ⌝ }
-    ensures { λ r. ⌜ LayoutFilled r ⌝ }
-{
-    let role = role_for(w, p);
-    let layout = p.layout;
-    with_space(w, with_wave(w, with_role(w, role, layout)))
+    space
 }
 
 // What it allows directly after it: a precision after a signal, and after a prefix or its precision the 5000.
 pub fn allowed_after(w: u16, p: DictionaryWalk) -> Allowed
-    requires { ⌜ LayoutWithin (p .layout) ⌝ }
-    ensures { λ r. ⌜ allowedOf r ≡ allowedAfter w (dictionaryWalkOf p) ⌝ }
+    requires { ⌜ p .colours ≤ colourLimit ⌝ }
+    ensures { λ r. ⌜ AnyWaves p (λ waves. (roles : List ℕ) → allowedOf r ≡ allowedAfter w (dictionaryWalkOf p roles waves)) ⌝ }
 {
     let waiting = (w == tag::PREFIX) | ((w == tag::PRECISION) & p.allowed.waiting);
     let refined = tag::is_signal(w);
     if refined {
-        let role = tag::slot_for(w, p.layout.colours) + PRECISION_OCTET;
+        let role = tag::slot_for(w, p.colours) + PRECISION_OCTET;
         return Allowed {
             precision: true,
             role,

@@ -5,7 +5,6 @@ use super::Layout;
 use super::Mapped;
 use super::dictionary;
 use super::dimming;
-use super::kept::no_layout;
 use super::levels;
 use super::limits::PLACE_COUNT;
 use super::limits::TAG_OCTET_LIMIT;
@@ -15,7 +14,7 @@ ghost use mathlib.Core.Bool.{cond};
 ghost use lib.ListN.{length};
 ghost use Rattle.samples.specs.Points.{litPointsIn, drawnOver, roomFor};
 ghost use Rattle.tags.specs.Dictionary.{hostCheck};
-ghost use Rattle.tags.specs.Layout.{sampleOf, mappingOf, emptyLayout, hostChecked, dimmerMapped};
+ghost use Rattle.tags.specs.Layout.{sampleOf, mappingOf, hostChecked, dimmerMapped};
 ghost use Rattle.tags.specs.Levels.{hostLevels, hostWritten};
 
 // The dictionary check with the layout that it leaves: 6 for modes but 1 and 2, then 5 for odd lengths or above 1,020, then 8 to 12; 0
@@ -26,21 +25,13 @@ pub extern "C" fn mewkoast_layout(mode: u32, tags: &[u8]) -> Checked
 {
     let graphic = (mode == 1) | (mode == 2);
     if !graphic {
-        return unlaid(6);
+        return dictionary::refused(6);
     }
     let fits = (tags.len() % 2 == 0) & (tags.len() <= TAG_OCTET_LIMIT);
     if !fits {
-        return unlaid(5);
+        return dictionary::refused(5);
     }
     dictionary::check((mode % 256) as u8, tags)
-}
-
-// A refusal, with a layout that says nothing.
-fn unlaid(number: u8) -> Checked
-    ensures { λ r. ⌜ r ≡ record { number = number; layout = emptyLayout } ⌝ }
-{
-    let layout = no_layout();
-    Checked { number, layout }
 }
 
 // The dictionary check: the width of a sample, or 100 plus the refusal.

@@ -7,15 +7,15 @@ use crate::limits::DROP_BASE;
 use crate::limits::LEVEL_END;
 use crate::limits::SUBSET_LIMIT;
 ghost use mathlib.Core.Path.{_≡_};
-ghost use mathlib.Core.Bool.{cond, _||_};
+ghost use mathlib.Core.Bool.{cond};
 ghost use mathlib.Core.List.{_++_};
 ghost use Prim.Native.Nat.{_+_, _<_, _≤_, _^_, min};
 ghost use lib.ListN.{length, take, drop};
 ghost use lib.Dec.{leb};
 ghost use Rattle.tags.specs.Limits.{subsetLimit, levelEnd};
-ghost use Rattle.tags.specs.Dimmer.{dropped, mappingInRange};
+ghost use Rattle.tags.specs.Dimmer.{mappingInRange};
 ghost use Rattle.tags.specs.Layout.{mappingOf};
-ghost use Rattle.tags.specs.Levels.{wholeBase, countSum, mappedSum, levelsFit, placeOfLevel, putLevels, putSubsets, levelsDrawn, levelsCounted};
+ghost use Rattle.tags.specs.Levels.{wholeBase, countSum, mapped, mappedSum, levelsFit, placeOfLevel, putLevels, putSubsets, levelsDrawn, levelsCounted};
 
 // how many subsets the record holds
 fn held(dimmer: Dimmer) -> usize
@@ -38,15 +38,14 @@ fn whole_base(dimmer: Dimmer) -> u16
     dimmer.base
 }
 
-// Check 21 without 43. Above LEVEL_END octets no base is added, so that no sum wraps.
-fn whole_fits(base: u16, octets: usize) -> bool
-    ensures { λ r. ⌜ r ≡ (leb (base + octets) levelEnd || dropped base) ⌝ }
+// whether so many levels from that base on end at the last one. Above LEVEL_END octets no base is added, so that no sum wraps.
+fn ends_within(base: u16, octets: usize) -> bool
+    ensures { λ r. ⌜ r ≡ leb (base + octets) levelEnd ⌝ }
 {
-    let drops = base == DROP_BASE;
     if LEVEL_END < octets {
-        return drops;
+        return false;
     }
-    (base as usize + octets <= LEVEL_END) | drops
+    base as usize + octets <= LEVEL_END
 }
 
 // the octets that the subsets describe, dropped ones included
@@ -68,37 +67,25 @@ pub fn fit(dimmer: Dimmer, octets: usize) -> bool
     ensures { λ r. ⌜ r ≡ levelsFit (mappingOf dimmer) octets ⌝ }
 {
     if held(dimmer) == 0 {
-        return whole_fits(whole_base(dimmer), octets);
+        let base = whole_base(dimmer);
+        return ends_within(base, octets) | (base == DROP_BASE);
     }
     octets == count_sum(dimmer)
 }
 
-// how many of `octets` levels from that base on are written
-fn counted(base: u16, octets: usize) -> usize
-    ensures { λ r. ⌜ r ≡ cond (dropped base) 0 octets ⌝ }
-{
-    let dropped = base == DROP_BASE;
-    if dropped {
-        return 0;
-    }
-    octets
-}
-
 // the place of level number `base`: mode 6 has the upper half of the levels, and every other mode is taken for 4
 fn place_of(mode: u8, base: u16) -> usize
+    requires { ⌜ 1 ≤ base ⌝ }
     ensures { λ r. ⌜ (r ≡ placeOfLevel mode base) × (r < 2 ^ 17) ⌝ }
 {
     if mode == 6 {
         return 511 + base as usize;
     }
-    if base == 0 {
-        return 0;
-    }
     base as usize - 1
 }
 
-// `part` copied into the levels from `place` on
-fn copy(part: &[u8], levels: &mut [u8], place: usize)
+// `part` copied into the levels from `place` on. Octets are kept by it too (src/kept.rt).
+pub fn copy(part: &[u8], levels: &mut [u8], place: usize)
     requires { ⌜ place + length (now part) ≤ length (now levels) ⌝ }
     ensures { λ _. ⌜ now (levels .exit) ≡ take place (now (levels .entry)) ++ now (part .entry) ++ drop (place + length (now (part .entry))) (now (levels .entry)) ⌝ }
 {
@@ -109,18 +96,24 @@ fn copy(part: &[u8], levels: &mut [u8], place: usize)
     }
 }
 
-// `part` written from level number `base` on, where it is within the levels
-fn put(mode: u8, base: u16, part: &[u8], levels: &mut [u8])
+// `part` written from level number `base` on, where it is mapped and within the levels; and how many are mapped
+fn put(mode: u8, base: u16, part: &[u8], levels: &mut [u8]) -> usize
     ensures { λ _. ⌜ now (levels .exit) ≡ putLevels mode base (now (part .entry)) (now (levels .entry)) ⌝ }
+    ensures { λ r. ⌜ r ≡ cond (mapped base (length (now (part .entry)))) (length (now (part .entry))) 0 ⌝ }
 {
-    if base == DROP_BASE {
-        return;
+    if base == 0 {
+        return 0;
+    }
+    let ends = ends_within(base, part.len());
+    if !ends {
+        return 0;
     }
     let place = place_of(mode, base);
     if levels.len() < place + part.len() {
-        return;
+        return part.len();
     }
     copy(part, levels, place);
+    part.len()
 }
 
 // The octets of each subset in turn, and how many are written. A dropped subset takes its octets too, so that the next ones have
@@ -138,15 +131,14 @@ fn put_subsets(dimmer: Dimmer, mode: u8, octets: &[u8], levels: &mut [u8]) -> us
         let base = dimmer.bases[j];
         let count = dimmer.counts[j] as usize;
         let to = from + count;
-        put(mode, base, &octets[from..to], levels);
-        written += counted(base, count);
+        written += put(mode, base, &octets[from..to], levels);
         from = to;
         j += 1;
     }
     written
 }
 
-// The levels of a dimmer chunk written, and how many; where check 21 does not pass, none.
+// The levels of a dimmer chunk written where there is room, and how many it has for the 1,024 places; where check 21 does not pass, none.
 pub fn write(dimmer: Dimmer, mode: u8, octets: &[u8], levels: &mut [u8]) -> usize
     ensures { λ _. ⌜ now (levels .exit) ≡ levelsDrawn mode (mappingOf dimmer) (now (octets .entry)) (now (levels .entry)) ⌝ }
     ensures { λ r. ⌜ r ≡ levelsCounted (mappingOf dimmer) (length (now (octets .entry))) ⌝ }
@@ -157,8 +149,7 @@ pub fn write(dimmer: Dimmer, mode: u8, octets: &[u8], levels: &mut [u8]) -> usiz
     }
     if held(dimmer) == 0 {
         let base = whole_base(dimmer);
-        put(mode, base, octets, levels);
-        return counted(base, octets.len());
+        return put(mode, base, octets, levels);
     }
     put_subsets(dimmer, mode, octets, levels)
 }

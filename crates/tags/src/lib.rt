@@ -1,5 +1,6 @@
 // The tag layer: what the tags of a configuration say, and what a chunk's octets mean by them. The receiver knows this layer by
-// its promises alone. Tags are read once, when a channel is routed; what they say is kept in a Layout or a Dimmer.
+// its promises alone. Tags are read once, when a channel is routed; what they say is a Layout or a Dimmer, and kept.rt has the form in
+// which a layer above keeps either.
 pub mod dictionary;
 pub mod dimming;
 mod gather;

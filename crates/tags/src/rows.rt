@@ -1,20 +1,20 @@
 // Samples to rows, by the layout that a dictionary gave (document 01, "One row"). The decoding itself is the crate `samples`; here a
-// layout is read by what it means.
+// layout is read by what it means. What needs the octets of a sample alone takes them as a layer above keeps them (specs/Kept.antt).
 use super::Layout;
 use super::limits::OCTET_LIMIT;
 ghost use mathlib.Core.Path.{_≡_};
 ghost use mathlib.Core.Bool.{cond};
 ghost use Prim.Native.Nat.{_%_};
-ghost use lib.ListN.{length};
 ghost use lib.Dec.{eqb};
 ghost use Rattle.samples.specs.Points.{samplesOf, pointsFor, litPointsIn, drawnOver, roomFor};
 ghost use Rattle.tags.specs.Layout.{sampleOf};
+ghost use Rattle.tags.specs.Kept.{octetsOf};
 
-// The octets of a sample, of which a layout has at most OCTET_LIMIT.
-fn octets_of(layout: Layout) -> usize
-    ensures { λ r. ⌜ r ≡ length (sampleOf layout .roles) ⌝ }
+// The octets of a sample, of which there are at most OCTET_LIMIT.
+fn octets_of(size: u8) -> usize
+    ensures { λ r. ⌜ r ≡ octetsOf size ⌝ }
 {
-    let width = layout.width as usize;
+    let width = size as usize;
     if width < OCTET_LIMIT {
         return width;
     }
@@ -22,10 +22,10 @@ fn octets_of(layout: Layout) -> usize
 }
 
 // How many whole samples that many octets hold.
-pub fn samples(layout: Layout, octets: usize) -> usize
-    ensures { λ r. ⌜ r ≡ samplesOf (length (sampleOf layout .roles)) octets ⌝ }
+pub fn samples(size: u8, octets: usize) -> usize
+    ensures { λ r. ⌜ r ≡ samplesOf (octetsOf size) octets ⌝ }
 {
-    let width = octets_of(layout);
+    let width = octets_of(size);
     if width == 0 {
         return 0;
     }
@@ -40,10 +40,10 @@ pub fn points(samples: usize) -> usize
 }
 
 // Whether that many octets are whole samples.
-pub fn whole(layout: Layout, octets: usize) -> bool
-    ensures { λ r. ⌜ r ≡ eqb (octets % length (sampleOf layout .roles)) 0 ⌝ }
+pub fn whole(size: u8, octets: usize) -> bool
+    ensures { λ r. ⌜ r ≡ eqb (octets % octetsOf size) 0 ⌝ }
 {
-    let width = octets_of(layout);
+    let width = octets_of(size);
     if width == 0 {
         return octets == 0;
     }

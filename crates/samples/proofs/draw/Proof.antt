@@ -4,7 +4,7 @@ use mathlib.Core.Path.{_≡_, refl}
 use lib.ListN.{length, take}
 use borrow.Author.Needs.{needs}
 use Rattle.samples.specs.Limits.{octetLimit}
-use Rattle.samples.proofs.ChunkLaws.{clamped-length, clamped-take, samples-are, samples-within, room-none, room-some}
+use Rattle.samples.proofs.PointLaws.{clamped-length, clamped-take, samples-are, samples-within, room-none, room-some}
 use Rattle.samples.proofs.draw.Statement.{statement}
 use Rattle.samples.proofs.draw.Tie as tie
 
@@ -16,7 +16,7 @@ start-of c = c .before .before
 abbrev least-at : tie.Else1 → tie.After-least
 least-at c = c .before .before
 
-abbrev room-at : tie.After-draw-arg → tie.Else1
+abbrev room-at : tie.After-draw-all-arg → tie.Else1
 room-at c = c .before .before .before
 
 -- ---- the width
@@ -35,8 +35,8 @@ returns c =
     let a = start-of w .args in
     rw (room-none (take (a .width) (a .t1)) (a .octets .now) (a .rows .now) _ _ (sized w) (c .before .samples-in .ensures) (c .if1 .taken)) (refl, refl)
 
-draw-requires : tie.Need-draw-requires
-draw-requires c κs =
+draw-all-requires : tie.Need-draw-all-requires
+draw-all-requires c κs =
     let r = room-at c in
     let w = least-at r in
     let a = start-of w .args in (
@@ -57,9 +57,9 @@ returns-2 c =
       ← samples-are (take (a .width) (a .t1)) (a .octets .now) (a .rows .now) _ _ (sized w) n,
       ← clamped-take (a .t1) (a .width) _ (long w) (w .least .ensures),
     )
-    (c .before .draw .ensures)
+    (c .before .draw-all .ensures)
 
 pub draw-spec : {M : Type 1} → statement M
 draw-spec =
     tie.close
-    (tie.spec (λ c κs. search needs) (λ c κs. search needs) returns draw-requires (λ c. search needs) returns-2)
+    (tie.spec (λ c κs. search needs) (λ c κs. search needs) returns draw-all-requires (λ c. search needs) returns-2)

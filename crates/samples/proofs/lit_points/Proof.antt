@@ -5,12 +5,12 @@ use mathlib.Core.List.{[]}
 use lib.ListN.{length, take}
 use borrow.Author.Needs.{needs}
 use Rattle.samples.specs.Limits.{octetLimit}
-use Rattle.samples.proofs.ChunkLaws.{clamped-length, clamped-take, samples-are, samples-within}
+use Rattle.samples.proofs.PointLaws.{clamped-length, clamped-take, samples-are, samples-within}
 use Rattle.samples.proofs.lit_points.Statement.{statement}
 use Rattle.samples.proofs.lit_points.Tie as tie
 
-count-requires : tie.Need-count-requires
-count-requires c κs =
+count-lit-requires : tie.Need-count-lit-requires
+count-lit-requires c κs =
     let a = c .before .before .before .before .args in
     let l : length (a .t1) ≡ octetLimit = search needs in
     let s = c .before .before .least .ensures in
@@ -24,8 +24,8 @@ returns c =
     let s = c .before .before .before .least .ensures in
     let e = clamped-length (a .t1) (a .width) _ l s in
     rw (← samples-are (take (a .width) (a .t1)) (a .octets .now) [] _ _ e (c .before .before .samples-in .ensures), ← clamped-take (a .t1) (a .width) _ l s)
-    (c .count .ensures)
+    (c .count-lit .ensures)
 
 pub lit-points-spec : {M : Type 1} → statement M
 lit-points-spec =
-    tie.close (tie.spec (λ c κs. search needs) (λ c κs. search needs) count-requires returns)
+    tie.close (tie.spec (λ c κs. search needs) (λ c κs. search needs) count-lit-requires returns)

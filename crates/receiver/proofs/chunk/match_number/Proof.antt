@@ -20,41 +20,41 @@ heard c = rw (← c .before .before .mode-in .ensures, ← c .before .void-mode 
 
 returns : tie.Need-returns
 unfolding matchNumber
-returns c =
-    rw (configuration-mode (start-of (c .before) .args .k), ← c .before .before .mode-in .ensures, ← c .before .void-mode .ensures, c .if1 .taken)
+returns c area =
+    rw (configuration-mode (start-of (c .before) .args .k) area, ← c .before .before .mode-in .ensures, ← c .before .void-mode .ensures, c .if1 .taken)
 
 returns-2 : tie.Need-returns-2
 unfolding matchNumber
-returns-2 c =
+returns-2 c area =
     let e = c .before .before .before in
     let k = start-of (e .before) .args .k in
-    rw (← c .before .before .is-drawing .ensures, ← c .before .is-dimming .ensures, configuration-mode k, heard e, c .if2 .taken)
+    rw (← c .before .before .is-drawing .ensures area, ← c .before .is-dimming .ensures area, configuration-mode k area, heard e, c .if2 .taken)
 
 returns-3 : tie.Need-returns-3
 unfolding matchNumber
-returns-3 c =
+returns-3 c area =
     let f = c .before .before in
     let e = f .before .before .before in
     let k = start-of (e .before) .args .k in
-    rw (← f .before .before .is-drawing .ensures, ← f .before .is-dimming .ensures, configuration-mode k, heard e, f .if2 .left, ← c .before .wrong-data .ensures, c .if3 .taken)
+    rw (← f .before .before .is-drawing .ensures area, ← f .before .is-dimming .ensures area, configuration-mode k area, heard e, f .if2 .left, ← c .before .wrong-data .ensures, c .if3 .taken)
 
 returns-4 : tie.Need-returns-4
 unfolding matchNumber
-returns-4 c =
+returns-4 c area =
     let w = c .before .before .before in
     let f = w .before .before in
     let e = f .before .before .before in
     let k = start-of (e .before) .args .k in
-    rw (← f .before .before .is-drawing .ensures, ← f .before .is-dimming .ensures, open-match k (heard e), configuration-mode k, heard e, f .if2 .left, ← w .before .wrong-data .ensures, w .if3 .left, ← c .before .before .octet .ensures, c .if4 .taken)
+    rw (← f .before .before .is-drawing .ensures area, ← f .before .is-dimming .ensures area, open-match k area (heard e), configuration-mode k area, heard e, f .if2 .left, ← w .before .wrong-data .ensures, w .if3 .left, ← c .before .before .octet .ensures, c .if4 .taken)
 
 returns-5 : tie.Need-returns-5
 unfolding matchNumber
-returns-5 c =
+returns-5 c area =
     let w = c .before .before .before in
     let f = w .before .before in
     let e = f .before .before .before in
     let k = start-of (e .before) .args .k in
-    rw (← f .before .before .is-drawing .ensures, ← f .before .is-dimming .ensures, open-match k (heard e), configuration-mode k, heard e, f .if2 .left, ← w .before .wrong-data .ensures, w .if3 .left, ← c .before .before .octet .ensures, c .if4 .left)
+    rw (← f .before .before .is-drawing .ensures area, ← f .before .is-dimming .ensures area, open-match k area (heard e), configuration-mode k area, heard e, f .if2 .left, ← w .before .wrong-data .ensures, w .if3 .left, ← c .before .before .octet .ensures, c .if4 .left)
 
 pub match-number-spec : {M : Type 1} → statement M
 match-number-spec =

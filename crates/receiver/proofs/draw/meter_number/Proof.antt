@@ -12,7 +12,9 @@ use Rattle.tags.specs.RowsLaws.{litPoints-le-points}
 use Rattle.tags.specs.Rows.{pointsBy, litPointsBy}
 use Rattle.tags.specs.Choice.{refuse}
 use Rattle.tags.specs.Dictionary.{Sample}
-use Rattle.tags.specs.Layout.{sampleOf}
+use Rattle.tags.specs.Kept.{sampleIn}
+use Rattle.tags.specs.KeptLaws.{kept-octets}
+use Rattle.receiver.specs.Governing.{Configuration}
 use Rattle.receiver.specs.Chunk.{Chunk, chunk, isDrawing, body}
 use Rattle.receiver.specs.Meters.{Sums, limit}
 use Rattle.receiver.specs.Checks.{meterNumber}
@@ -36,12 +38,22 @@ abbrev meters : tie.Start → Sums
 meters s = sumsIn (s .args .meters)
 
 within : (s : tie.Start) → (meters s .litTime ≤ limit) × (meters s .points ≤ limit) × (meters s .litPoints ≤ limit)
-within s = within-each (meters s) (s .pre .1)
+within s = within-each (meters s) (s .pre .1 .1)
+
+-- what the channel kept
+abbrev area : tie.Start → List ℕ
+area s = s .args .area .now
+
+abbrev sample : tie.Start → Sample
+sample s = sampleIn (s .args .k .size) (s .args .k .colours) (area s)
+
+abbrev governing : tie.Start → Configuration
+governing s = configurationOf (s .args .k) (area s)
 
 -- ---- the steps, each from the one after it
 
 abbrev drawing-at : tie.After-points → tie.After-is-drawing
-drawing-at c = c .before .before .before .before .before
+drawing-at c = c .before .before .before .before
 
 abbrev start-of : tie.After-points → tie.Start
 start-of c = drawing-at c .before .before
@@ -53,38 +65,38 @@ abbrev time-at : tie.After-over-limit → tie.After-duration-of
 time-at c = c .before .before .before .before
 
 abbrev far-at : tie.After-counted-time → tie.After-over-limit
-far-at c = c .before .before .before
+far-at c = c .before .before .before .before
 
 abbrev near-at : tie.After-over-limit2 → tie.After-counted-time
 near-at c = c .before .before .before .before
 
 -- ---- what the calls on the way gave
 
-drawing : (c : tie.After-points) → isDrawing (start-of c .args .chunk-type) (configurationOf (start-of c .args .k)) ≡ true
-drawing c = sym (drawing-at c .is-drawing .ensures) ∙ not-false _ (c .before .before .before .before .if1 .left)
+drawing : (c : tie.After-points) → isDrawing (start-of c .args .chunk-type) (governing (start-of c)) ≡ true
+drawing c = sym (drawing-at c .is-drawing .ensures (area (start-of c))) ∙ not-false _ (c .before .before .before .if1 .left)
 
-counted : (c : tie.After-points)
-    → c .points .result ≡ pointsBy (sampleOf (start-of c .args .k .layout)) (body (this (start-of c)))
+counted : (c : tie.After-points) → c .points .result ≡ pointsBy (sample (start-of c)) (body (this (start-of c)))
 counted c =
-    c .points .ensures ∙ rw (← c .before .before .before .body-of .ensures (start-of c .args .chunk-type)) (c .before .samples .ensures)
+    let s = start-of c in
+    rw (kept-octets (s .args .k .size) (s .args .k .colours) (area s) (s .pre .0), ← c .before .before .body-of .ensures (s .args .chunk-type), ← c .before .samples .ensures) (c .points .ensures)
 
 few : (c : tie.After-points) → c .points .result ≤ mostOctets
-few c = let s = start-of c in rw (counted c) (points-few (this s) (s .pre .0) (sampleOf (s .args .k .layout)))
+few c = let s = start-of c in rw (counted c) (points-few (this s) (s .pre .1 .0) (sample s))
 
 shown-are : (c : tie.After-lit)
-    → let s = start-of (points-at (time-at (c .before .before))) in
-    c .lit .result
-    ≡ litPointsBy (sampleOf (s .args .k .layout)) (body (this s))
+    → let s = start-of (points-at (time-at (c .before .before .before))) in
+    c .lit .result ≡ litPointsBy (sample s) (body (this s))
 shown-are c =
-    let p = points-at (time-at (c .before .before)) in
-    rw (← p .before .before .before .body-of .ensures (start-of p .args .chunk-type)) (c .lit .ensures)
+    let p = points-at (time-at (c .before .before .before)) in
+    let roles = ap (λ (a : Sample). a .roles) (c .before .layout-in .ensures) in
+    rw (← roles, ← p .before .before .body-of .ensures (start-of p .args .chunk-type)) (c .lit .ensures)
 
 -- ---- the needs
 
 returns : tie.Need-returns
 returns c =
     let s = c .before .before .before in
-    sym (meter-idle (this s) (configurationOf (s .args .k)) (meters s) (sym (c .before .is-drawing .ensures) ∙ not-true _ (c .if1 .taken)) (s .pre .1))
+    sym (meter-idle (this s) (governing s) (meters s) (sym (c .before .is-drawing .ensures (area s)) ∙ not-true _ (c .if1 .taken)) (s .pre .1 .1))
 
 add-time : tie.Need-add-over-limit
 add-time c =
@@ -104,7 +116,7 @@ returns-2 c =
     let p = points-at d in
     let s = start-of p in
     sym
-    (meter-far (this s) (s .args .k) (meters s) (p .points .result) (d .duration-of .result) (drawing p) (counted p) (d .duration-of .ensures .0 (s .args .chunk-type))
+    (meter-far (this s) (s .args .k) (area s) (meters s) (p .points .result) (d .duration-of .result) (drawing p) (counted p) (d .duration-of .ensures .0 (s .args .chunk-type))
     (sym (o .over-limit .ensures) ∙ not-true _ (c .if2 .taken)))
 
 counted-le : (r shown time : ℕ) → r ≡ cond (not (eqb shown 0)) time 0 → r ≤ time
@@ -130,20 +142,20 @@ add-shown : tie.Need-add-over-limit-6
 add-shown c =
     let n = c .before .before .before in
     let p = points-at (time-at (far-at n)) in
-    let less : n .before .lit .result ≤ p .points .result = shown-le (sampleOf (start-of p .args .k .layout)) (body (this (start-of p))) _ _ (shown-are (n .before)) (counted p) in
+    let less : n .before .lit .result ≤ p .points .result = shown-le (sample (start-of p)) (body (this (start-of p))) _ _ (shown-are (n .before)) (counted p) in
     omega (arith, within (start-of p) .2, few p)
 
 -- near a limit the number goes by what the chunk really adds
 near-number : (c : tie.After-over-limit2)
     → let s = start-of (points-at (time-at (far-at (near-at c)))) in
-    meterNumber (this s) (configurationOf (s .args .k)) (meters s) ≡ refuse (c .over-limit2 .result) 23
+    meterNumber (this s) (governing s) (meters s) ≡ refuse (c .over-limit2 .result) 23
 near-number c =
     let n = near-at c in
     let d = time-at (far-at n) in
     let p = points-at d in
     let s = start-of p in
     let shown = n .before .lit .result in
-    meter-drawing (this s) (s .args .k) (meters s) (p .points .result) shown (n .counted-time .result) (drawing p) (counted p) (shown-are (n .before))
+    meter-drawing (this s) (s .args .k) (area s) (meters s) (p .points .result) shown (n .counted-time .result) (drawing p) (counted p) (shown-are (n .before))
     (n .counted-time .ensures ∙ lit-duration (eqb shown 0) (d .duration-of .result) ∙ ap (λ (t : ℕ). cond (eqb shown 0) 0 t) (d .duration-of .ensures .0 (s .args .chunk-type)))
     ∙ ap (λ (b : Bool). refuse b 23) (sym (c .over-limit2 .ensures))
 
@@ -168,6 +180,7 @@ meter-number-spec =
     add-lit
     (λ c κs. search needs)
     returns-2
+    (λ c κs. search needs)
     (λ c κs. search needs)
     (λ c κs. search needs)
     add-counted

@@ -26,9 +26,6 @@ sized-of c = c .before .before
 abbrev topped-of : tie.Else3 → tie.Else2
 topped-of c = c .before .before .before
 
-abbrev typed-of : tie.After-read → tie.Else3
-typed-of c = c .before
-
 -- ---- the needs
 
 returns : tie.Need-returns
@@ -55,21 +52,20 @@ passed : (m : List ℕ) → wrongLength m ≡ false → eqb (topBit m) 0 ≡ fal
 unfolding headerNumber
 passed m length top type = rw (length, top, type)
 
-left : (c : tie.After-read)
-    → let m = start-of (sized-of (topped-of (typed-of c))) .args .m .now in
-    headerNumber m ≡ refuse (ltb (length m) (c .read .result .start)) 5
+left : (c : tie.Else3)
+    → let a = start-of (sized-of (topped-of c)) .args in
+    headerNumber (a .m .now) ≡ refuse (ltb (length (a .m .now)) (a .h .start)) 5
 unfolding headerOf
 left c =
-    let t = typed-of c in
-    let k = t .before in
-    let o = topped-of t in
+    let k = c .before in
+    let o = topped-of c in
     let l = sized-of o in
     let m = start-of l .args .m .now in
     passed m
     (sym (l .before .wrong-length .ensures) ∙ l .if1 .left)
     (ap (λ (x : ℕ). eqb (x / 128) 0) (sym (o .before .octet .ensures)) ∙ o .if2 .left)
-    (ap (λ (x : ℕ). not (knownType x)) (sym (k .before .octet2 .ensures)) ∙ ap not (sym (k .known-type .ensures)) ∙ t .if3 .left)
-    ∙ ap (λ (h : Header). refuse (ltb (length m) (h .start)) 5) (sym (c .read .ensures))
+    (ap (λ (x : ℕ). not (knownType x)) (sym (k .before .octet2 .ensures)) ∙ ap not (sym (k .known-type .ensures)) ∙ c .if3 .left)
+    ∙ ap (λ (h : Header). refuse (ltb (length m) (h .start)) 5) (sym (start-of l .pre))
 
 returns-4 : tie.Need-returns-4
 returns-4 c = sym (left (c .before .before) ∙ ap (λ (b : Bool). refuse b 5) (c .if4 .taken))
@@ -88,6 +84,5 @@ header-number-spec =
     (λ c κs. search needs)
     (λ c κs. search needs)
     returns-3
-    (λ c κs. search needs)
     returns-4
     returns-5)

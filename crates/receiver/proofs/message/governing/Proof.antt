@@ -1,59 +1,160 @@
--- `receiver::message::governing` meets its contract: a routing brings its own configuration, another message goes by its channel's.
+-- `receiver::message::governing` meets its contract: each way out is one of the laws of what governs.
 use borrow.Author.Needs.{needs}
-use mathlib.Core.Path.{_≡_, sym, subst, _∙_}
-use Prim.Native.Nat.{_-_}
-use lib.ListN.{take, drop}
-use Rattle.receiver.specs.Message.{routes, modeOf, serviceOf, matchBits, tagsOf}
+use borrow.Author.Tests.{not-true, not-false, eqb-true}
+use mathlib.Core.Path.{_≡_, sym, ap, subst, subst₂, _∙_}
+use mathlib.Core.Bool.{true}
+use mathlib.Core.List.{List}
+use Prim.Native.Nat.{ℕ, _-_, _<_}
+use native.Mathlib.Omega.{arith}
+use lib.ListN.{length, take, drop}
+use Rattle.tags.specs.Kept.{areaSize}
+use Rattle.receiver.specs.Message.{channelOf, routes, modeOf, serviceOf, matchBits, tagsOf}
+use Rattle.receiver.specs.Modes.{channelCount}
 use Rattle.receiver.specs.Header.{headerOf}
-use Rattle.receiver.specs.Steps.{RoutedTo, Governed}
+use Rattle.receiver.specs.Checks.{headerNumber}
+use Rattle.receiver.specs.Record.{areaPlace, areaIn, configIn, consistent}
+use Rattle.receiver.specs.Steps.{RoutedTo, shownBy, Governed}
 use Rattle.receiver.specs.declared.header.Header.{Header}
 use Rattle.receiver.specs.declared.Config.{Config}
-use Rattle.receiver.proofs.HeaderLaws.{header-routing, header-start}
-use Rattle.receiver.proofs.CheckLaws.{data-start, routing-start}
-use Rattle.receiver.proofs.JudgeLaws.{governed-routed, governed-held}
+use Rattle.receiver.specs.declared.Receiver.{Receiver}
+use Rattle.receiver.proofs.HeaderLaws.{header-channel, header-routing, header-start}
+use Rattle.receiver.proofs.CheckLaws.{data-start, routing-start, channel-below}
+use Rattle.receiver.proofs.PartLaws.{length-part}
+use Rattle.receiver.proofs.JudgeLaws.{governed-inconsistent, governed-header, governed-routed, governed-held}
 use Rattle.receiver.proofs.message.governing.Statement.{statement}
 use Rattle.receiver.proofs.message.governing.Tie as tie
 use Rattle.receiver.proofs.message.governing.Reads as reads
 use Rattle.receiver.proofs.message.governing.Lts as lts
 
+-- ---- the steps, each from the one after it
+
+abbrev start-of : tie.After-sound → tie.Start
+start-of c = c .before .before .before
+
+abbrev sound-of : tie.After-header-number → tie.After-sound
+sound-of c = c .before .before
+
+abbrev header-of : tie.Else2 → tie.After-header-number
+header-of c = c .before
+
+abbrev entry-of : tie.Else2 → tie.Start
+entry-of c = start-of (sound-of (header-of c))
+
+-- ---- what was found on the way
+
+abbrev record-of : tie.Start → Receiver
+record-of s = shownBy (s .args .channels .now) (s .args .meters)
+
+-- the flag is check 1: a record of these octets and three meters has its lengths
+good-is : (c : tie.After-sound) → c .sound .result ≡ consistent (record-of (start-of c))
+unfolding consistent
+good-is c = rw (start-of c .pre .0 .0) (c .sound .ensures)
+
+good-at : (c : tie.Else1) → consistent (record-of (start-of (c .before))) ≡ true
+good-at c = sym (good-is (c .before)) ∙ not-false _ (c .if1 .left)
+
+well-formed : (c : tie.Else2) → headerNumber (entry-of c .args .m .now) ≡ 0
+well-formed c = sym (header-of c .header-number .ensures) ∙ eqb-true _ 0 (not-false _ (c .if2 .left))
+
 routing-is : (s : tie.Start) → s .args .h .routing ≡ routes (s .args .m .now)
-routing-is s = header-routing (s .args .h) (s .args .m .now) (s .pre .0)
+routing-is s = header-routing (s .args .h) (s .args .m .now) (s .pre .1)
+
+channel-is : (s : tie.Start) → s .args .h .channel .0 ≡ channelOf (s .args .m .now)
+channel-is s = header-channel (s .args .h) (s .args .m .now) (s .pre .1)
+
+below : (s : tie.Start) → s .args .h .channel .0 < channelCount
+below s = rw (channel-is s) (channel-below (s .args .m .now))
+
+-- ---- the needs
+
+returns : tie.Need-returns
+returns c =
+    let k = c .before .before in
+    let s = start-of k in (
+      governed-inconsistent (record-of s) (s .args .m .now) (c .none-found .result) (s .args .area .now) (c .none-found .ensures)
+          (sym (good-is k) ∙ not-true _ (c .before .if1 .taken)),
+      s .pre .0 .1,
+    )
+
+returns-2 : tie.Need-returns-2
+returns-2 c =
+    let h = c .before .before in
+    let s = start-of (sound-of h) in (
+      governed-header (record-of s) (s .args .m .now) (good-at (h .before)) (c .none-found2 .result) (s .args .area .now)
+          (rw (c .none-found2 .ensures) (c .before .if2 .taken))
+          (c .none-found2 .ensures ∙ h .header-number .ensures),
+      s .pre .0 .1,
+    )
+
+sub-route : tie.Need-sub-route
+sub-route c =
+    let s = entry-of (c .before .before) in
+    rw (header-start (s .args .h) (s .args .m .now) (s .pre .1)) (routing-start (s .args .m .now) (sym (routing-is s) ∙ c .before .if3 .taken))
+
+part-route-end : tie.Need-part-route-end
+part-route-end c =
+    let s = entry-of (c .before .before) in
+    rw (header-start (s .args .h) (s .args .m .now) (s .pre .1)) (data-start (s .args .m .now) (well-formed (c .before .before)))
+
+abbrev routing-of : tie.After-route → tie.Then3
+routing-of c = c .before .before .before .before
 
 -- what the routing found, of the message's own fields
 module _ (c : tie.After-route) where
   entry : tie.Start
-  entry = c .before .before .before .before .before
+  entry = entry-of (routing-of c .before)
 
-  found-at : RoutedTo (modeOf (entry .args .m .now)) (serviceOf (entry .args .m .now)) (matchBits (entry .args .m .now)) (tagsOf (entry .args .m .now)) (c .route .result)
+  found-at :
+      RoutedTo (modeOf (entry .args .m .now)) (serviceOf (entry .args .m .now)) (matchBits (entry .args .m .now)) (tagsOf (entry .args .m .now)) (c .route .result) (c .route .last .1 .1 .1 .1 .0)
   unfolding entry headerOf tagsOf
   found-at =
       subst
-      (λ (h : Header). RoutedTo (h .mode) (h .service .0) (h .«match_bits») (take (h .start - 12) (drop 12 (entry .args .m .now))) (c .route .result))
-      (entry .pre .0)
-      (c .route .ensures)
+      (λ (h : Header). RoutedTo (h .mode) (h .service .0) (h .«match_bits») (take (h .start - 12) (drop 12 (entry .args .m .now))) (c .route .result) (c .route .last .1 .1 .1 .1 .0))
+      (entry .pre .1)
+      (c .route .ensures .0)
 
-sub-route : tie.Need-sub-route
-sub-route c =
-    let s = c .before .before .before in
-    rw (header-start (s .args .h) (s .args .m .now) (s .pre .0)) (routing-start (s .args .m .now) (sym (routing-is s) ∙ c .before .if1 .taken))
-
-part-route-end : tie.Need-part-route-end
-part-route-end c =
-    let s = c .before .before .before in
-    rw (header-start (s .args .h) (s .args .m .now) (s .pre .0)) (data-start (s .args .m .now) (s .pre .1))
-
-returns : tie.Need-returns
+returns-3 : tie.Need-returns-3
 unfolding entry
-returns c r held =
-    let s = entry c in
-    governed-routed r (s .args .m .now) (sym (routing-is s) ∙ c .before .before .before .if1 .taken) (c .route .result) (found-at c)
+returns-3 c =
+    let e = routing-of c in
+    let s = entry c in (
+      governed-routed (record-of s) (s .args .m .now) (good-at (header-of (e .before) .before)) (well-formed (e .before))
+          (sym (routing-is s) ∙ e .if3 .taken) (c .route .result) (c .route .last .1 .1 .1 .1 .0) (found-at c),
+      c .route .ensures .1,
+    )
 
-returns-2 : tie.Need-returns-2
-returns-2 c r held =
-    let s = c .before .before in
-    subst (λ (k : Config). Governed r (s .args .m .now) (record { number = 0; config = k })) (sym held)
-    (governed-held r (s .args .m .now) (sym (routing-is s) ∙ c .if1 .left))
+abbrev held-of : tie.After-config-at → tie.Else3
+held-of c = c .before .before .before .before
+
+returns-4 : tie.Need-returns-4
+returns-4 c =
+    let e = held-of c in
+    let s = entry-of (e .before) in
+    let channels = s .args .channels .now in
+    let i = channelOf (s .args .m .now) in
+    let config = c .config-at .ensures ∙ ap (configIn channels) (channel-is s) in
+    let area = c .before .area-at .ensures ∙ ap (areaIn channels) (channel-is s) in (
+      subst₂ (λ (k : Config) (a : List ℕ). Governed (record-of s) (s .args .m .now) (record { number = 0; config = k }) a) (sym config) (sym area)
+          (governed-held (record-of s) (s .args .m .now) (good-at (header-of (e .before) .before)) (well-formed (e .before)) (sym (routing-is s) ∙ e .if3 .left)),
+      ap length area ∙ length-part areaSize (areaPlace i) channels (rw (s .pre .0 .0) (let below = channel-below (s .args .m .now) in omega (arith, below))),
+    )
 
 pub governing-spec : {M : Type 1} → statement M
 governing-spec =
-    tie.close (tie.spec sub-route sub-route part-route-end (λ c κs. search needs) returns returns-2)
+    tie.close
+    (tie.spec
+    (λ c κs. search needs)
+    (λ c κs. search needs)
+    returns
+    (λ c κs. start-of (c .before) .pre .1)
+    (λ c κs. search needs)
+    returns-2
+    sub-route
+    sub-route
+    part-route-end
+    (λ c κs. search needs)
+    returns-3
+    (λ c. search needs)
+    (λ c κs. let s = entry-of (c .before .before .before) in (s .pre .0 .0, below s, s .pre .0 .1))
+    (λ c κs. let s = entry-of (c .before .before .before .before) in (s .pre .0 .0, below s))
+    returns-4)

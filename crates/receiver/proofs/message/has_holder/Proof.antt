@@ -16,11 +16,11 @@ none true b c e = rw e refl
 none false b c e = refl
 
 abbrev start-of : tie.After-exclusive-mode → tie.Start
-start-of c = c .before
+start-of c = c .before .before
 
 -- what is asked of the states
 abbrev held : tie.Start → Bool
-held s = heldStates (s .args .states) (s .args .h .mode) (s .args .h .channel .0) 64
+held s = heldStates (s .args .channels .now) (s .args .h .mode) (s .args .h .channel .0) 64
 
 returns : tie.Need-returns
 returns c =

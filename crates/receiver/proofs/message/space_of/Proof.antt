@@ -13,14 +13,16 @@ tested c = rw (← c .before .mode-in .ensures) (c .graphic-mode .ensures)
 
 returns : tie.Need-returns
 returns c =
-    let g = c .before .before .before in
-    let k = g .before .before .args .k in
-    c .space .ensures ∙ ap (λ (a : Sample). a .space) (sym (graphic-sample k (sym (tested g) ∙ c .before .before .if1 .taken)))
+    let g = c .before .before in
+    let a = g .before .before .args in
+    c .space-in .ensures
+    ∙ ap (λ (s : Sample). s .space) (sym (graphic-sample (a .k) (a .area .now) (sym (tested g) ∙ c .before .if1 .taken)))
 
 returns-2 : tie.Need-returns-2
 returns-2 c =
     let g = c .before in
-    ap (λ (a : Sample). a .space) (sym (other-sample (g .before .before .args .k) (sym (tested g) ∙ c .if1 .left)))
+    let a = g .before .before .args in
+    ap (λ (s : Sample). s .space) (sym (other-sample (a .k) (a .area .now) (sym (tested g) ∙ c .if1 .left)))
 
 pub space-of-spec : {M : Type 1} → statement M
 space-of-spec =

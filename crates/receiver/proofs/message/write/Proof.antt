@@ -29,24 +29,27 @@ returns c =
 data-of-requires : tie.Need-data-of-requires
 data-of-requires c κs =
     let s = c .before .before .before in
-    let start = header-start (s .args .h) (s .args .m .now) (s .pre .0) in
-    (start, rw start (data-start (s .args .m .now) (s .pre .1 (eqb-true _ 0 (accepted-is c)) .0)))
+    let start = header-start (s .args .h) (s .args .m .now) (s .pre .1 .0) in
+    (start, rw start (data-start (s .args .m .now) (s .pre .1 .1 (eqb-true _ 0 (accepted-is c)) .0)))
 
 -- the chunk that is drawn is the message's
 chunk-is : (c : tie.After-data-of)
     → chunk (c .before .before .before .before .args .h .«chunk_type») (c .data-of .result .now) ≡ chunkOf (c .before .before .before .before .args .m .now)
 chunk-is c =
     let s = c .before .before .before .before in
-    λ i. chunk (header-type (s .args .h) (s .args .m .now) (s .pre .0) i) (c .data-of .ensures .0 i)
+    λ i. chunk (header-type (s .args .h) (s .args .m .now) (s .pre .1 .0) i) (c .data-of .ensures .0 i)
 
 draw-requires : tie.Need-draw-requires
 draw-requires c κs =
     let d = c .before .before in
     let s = d .before .before .before .before in
-    let passed = s .pre .1 (eqb-true _ 0 (accepted-is (d .before))) in (
-      rw (d .data-of .ensures .0) (data-length (s .args .m .now) (passed .0)),
-      ap (λ (k : Chunk). contentNumber k (configurationOf (s .args .k)) (lengths (slices (s .args .rows .now) (s .args .levels .now)))) (chunk-is d)
-          ∙ passed .1,
+    let passed = s .pre .1 .1 (eqb-true _ 0 (accepted-is (d .before))) in (
+      s .pre .0,
+      (
+        rw (d .data-of .ensures .0) (data-length (s .args .m .now) (passed .0)),
+        ap (λ (k : Chunk). contentNumber k (configurationOf (s .args .k) (s .args .area .now)) (lengths (slices (s .args .rows .now) (s .args .levels .now)))) (chunk-is d)
+            ∙ passed .1,
+      ),
     )
 
 returns-2 : tie.Need-returns-2
@@ -57,8 +60,8 @@ returns-2 c =
     let s = d .before .before .before .before in
     let accepted = accepted-is (d .before) in
     record {
-      counts = rw accepted (w .draw .ensures .0 ∙ ap (λ (k : Chunk). countsOf k (configurationOf (s .args .k))) (chunk-is d));
-      slices = rw accepted (w .draw .ensures .1 ∙ ap (λ (k : Chunk). drawn k (configurationOf (s .args .k)) (slices (s .args .rows .now) (s .args .levels .now))) (chunk-is d));
+      counts = rw accepted (w .draw .ensures .0 ∙ ap (λ (k : Chunk). countsOf k (configurationOf (s .args .k) (s .args .area .now))) (chunk-is d));
+      slices = rw accepted (w .draw .ensures .1 ∙ ap (λ (k : Chunk). drawn k (configurationOf (s .args .k) (s .args .area .now)) (slices (s .args .rows .now) (s .args .levels .now))) (chunk-is d));
     }
 
 pub write-spec : {M : Type 1} → statement M

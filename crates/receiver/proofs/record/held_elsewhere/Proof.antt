@@ -11,10 +11,10 @@ use Rattle.receiver.proofs.record.held_elsewhere.Reads as reads
 use Rattle.receiver.proofs.record.held_elsewhere.Lts as lts
 
 abbrev Inv-loop : tie.InvT-loop
-Inv-loop mode c states found₀ k₀ found k = (k ≤ 64) × (found ≡ heldStates states mode c k)
+Inv-loop channels mode c found₀ k₀ found k = (k ≤ 64) × (found ≡ heldStates channels mode c k)
 
 abbrev μ-loop : tie.MeasureT-loop
-μ-loop mode c states found₀ k₀ found k = 64 - k
+μ-loop channels mode c found₀ k₀ found k = 64 - k
 
 loop-holds : tie.Need-loop-holds Inv-loop μ-loop
 unfolding heldStates
@@ -22,12 +22,13 @@ loop-holds c = (search needs, refl)
 
 loop-again : tie.Need-loop-again Inv-loop μ-loop
 unfolding heldStates
-loop-again c = (search needs, rw (add-one, ← c .mode-in .ensures, c .before .before .loop .inv .1))
+loop-again c = (search needs, rw (add-one, ← c .mode-in .ensures, c .before .before .before .loop .inv .1))
 
 returns : tie.Need-returns Inv-loop μ-loop
 returns c =
     let at-end : c .before .loop .k ≡ 64 = omega arith in
-    c .before .loop .inv .1 ∙ ap (heldStates (c .before .before .args .t1) (c .before .before .args .mode) (c .before .before .args .c)) at-end
+    let a = c .before .before .before .args in
+    c .before .loop .inv .1 ∙ ap (heldStates (a .channels .now) (a .mode) (a .c)) at-end
 
 pub held-elsewhere-spec : {M : Type 1} → statement M
 held-elsewhere-spec =

@@ -9,11 +9,9 @@ use lib.Seq.{take-all}
 use lib.Dec.{eqb, lit≤}
 use Rattle.tags.specs.Choice.{refuse}
 use Rattle.receiver.specs.Message.{topBit, dataStart, dataOf}
-use Rattle.receiver.specs.Header.{headerOf}
 use Rattle.receiver.specs.Checks.{wrongLength}
 use Rattle.tags.specs.ChoiceLaws.{first-zero-right, refuse-zero}
 use Rattle.receiver.specs.Section.{sectionNumber, sectionStart, dataSection}
-use Rattle.receiver.specs.declared.header.Header.{Header}
 use Rattle.receiver.proofs.section.data_section.Statement.{statement}
 use Rattle.receiver.proofs.section.data_section.Tie as tie
 use Rattle.receiver.proofs.section.data_section.Reads as reads
@@ -22,12 +20,11 @@ use Rattle.receiver.proofs.section.data_section.Lts as lts
 accepted : (c : tie.Else1) → sectionNumber (c .before .before .before .args .octets .now) ≡ 0
 accepted c = sym (c .before .section-number .ensures) ∙ eqb-true _ 0 (not-false _ (c .if1 .left))
 
-start-is : (c : tie.After-read) → c .read .result .start ≡ dataStart (c .before .before .before .before .args .octets .now)
-unfolding headerOf
-start-is c = ap (λ (h : Header). h .start) (c .read .ensures)
+start-is : (c : tie.After-data-start) → c .data-start .result ≡ dataStart (c .before .before .before .before .args .octets .now)
+start-is c = c .data-start .ensures
 
 -- the section starts within the message
-within : (c : tie.After-read) → c .read .result .start ≤ length (c .before .before .before .before .args .octets .now)
+within : (c : tie.After-data-start) → c .data-start .result ≤ length (c .before .before .before .before .args .octets .now)
 unfolding sectionNumber
 within c =
     let m = c .before .before .before .before .args .octets .now in
@@ -51,8 +48,8 @@ unfolding dataSection sectionStart dataOf
 returns-2 c =
     let m = c .before .before .before .before .before .args .octets .now in
     rw (eq-eqb (sectionNumber m) 0 (accepted (c .before .before))) (
-      rw (← start-is (c .before)) (take-all (length m - c .before .read .result .start) (drop (c .before .read .result .start) m) (simp length-drop (le-refl _))),
-      rw (← start-is (c .before)) (ap (λ (o : ℕ). (c .before .before .before .before .before .args .octets .ptr .0, o)) (add-comm (c .before .read .result .start) (c .before .before .before .before .before .args .octets .ptr .1))),
+      rw (← start-is (c .before)) (take-all (length m - c .before .data-start .result) (drop (c .before .data-start .result) m) (simp length-drop (le-refl _))),
+      rw (← start-is (c .before)) (ap (λ (o : ℕ). (c .before .before .before .before .before .args .octets .ptr .0, o)) (add-comm (c .before .data-start .result) (c .before .before .before .before .before .args .octets .ptr .1))),
     )
 
 pub data-section-spec : {M : Type 1} → statement M

@@ -9,9 +9,7 @@ use lib.Dec.{ltb, eqb}
 use Rattle.tags.specs.Choice.{refuse}
 use Rattle.receiver.specs.Message.{topBit}
 use Rattle.receiver.specs.Checks.{wrongLength, passesEnd}
-use Rattle.receiver.specs.Header.{headerOf}
 use Rattle.receiver.specs.Section.{sectionNumber}
-use Rattle.receiver.specs.declared.header.Header.{Header}
 use Rattle.receiver.proofs.section.section_number.Statement.{statement}
 use Rattle.receiver.proofs.section.section_number.Tie as tie
 
@@ -27,7 +25,7 @@ returns-2 c =
 
 -- ---- checks 2 and 3 passed: 5 is left
 
-abbrev topped-of : tie.After-read → tie.Else2
+abbrev topped-of : tie.After-data-start → tie.Else2
 topped-of c = c .before
 
 abbrev sized-of : tie.Else2 → tie.Else1
@@ -40,10 +38,9 @@ passed : (m : List ℕ) → wrongLength m ≡ false → eqb (topBit m) 0 ≡ fal
 unfolding sectionNumber
 passed m length top = rw (length, top)
 
-left : (c : tie.After-read)
+left : (c : tie.After-data-start)
     → let m = start-of (sized-of (topped-of c)) .args .m .now in
-    sectionNumber m ≡ refuse (ltb (length m) (c .read .result .start)) 5
-unfolding headerOf
+    sectionNumber m ≡ refuse (ltb (length m) (c .data-start .result)) 5
 left c =
     let o = topped-of c in
     let l = sized-of o in
@@ -51,13 +48,13 @@ left c =
     passed m
     (sym (l .before .wrong-length .ensures) ∙ l .if1 .left)
     (ap (λ (x : ℕ). eqb (x / 128) 0) (sym (o .before .octet .ensures)) ∙ o .if2 .left)
-    ∙ ap (λ (h : Header). refuse (ltb (length m) (h .start)) 5) (sym (c .read .ensures))
+    ∙ ap (λ (start : ℕ). refuse (ltb (length m) start) 5) (sym (c .data-start .ensures))
 
 returns-3 : tie.Need-returns-3
-returns-3 c = sym (left (c .before .before) ∙ ap (λ (b : Bool). refuse b 5) (c .if3 .taken))
+returns-3 c = sym (left (c .before) ∙ ap (λ (b : Bool). refuse b 5) (c .if3 .taken))
 
 returns-4 : tie.Need-returns-4
-returns-4 c = sym (left (c .before .before) ∙ ap (λ (b : Bool). refuse b 5) (c .if3 .left))
+returns-4 c = sym (left (c .before) ∙ ap (λ (b : Bool). refuse b 5) (c .if3 .left))
 
 pub section-number-spec : {M : Type 1} → statement M
 section-number-spec =

@@ -7,7 +7,7 @@ use lib.ListN.{length, getD, take, set, replicate, length-replicate, getD-replic
 use lib.Seq.{getD-take, length-take-le}
 use borrow.Author.Needs.{needs}
 use Rattle.samples.specs.Roles.{placeOf}
-use Rattle.samples.specs.Codes.{tableSize, Tabled}
+use Rattle.samples.specs.Signals.{tableSize, Tabled}
 use Rattle.samples.proofs.RoleLaws.{Filled, filled-none, filled-set, filled-skip}
 use Rattle.samples.proofs.places.table.Statement.{statement}
 use Rattle.samples.proofs.places.table.Tie as tie

@@ -15,16 +15,16 @@ use Rattle.samples.proofs.plan.template.Statement.{statement}
 use Rattle.samples.proofs.plan.template.Tie as tie
 
 abbrev Inv-loop : tie.InvT-loop
-Inv-loop waves colours shutter row₀ fixed k₀ row k =
-    (fixed ≡ min colours colourLimit) × (k ≤ fixed) × Waved shutter (take colours waves) row k
+Inv-loop fixed colours shutter row₀ all k₀ row k =
+    (all ≡ min colours colourLimit) × (k ≤ all) × Waved shutter (take colours fixed) row k
 
 abbrev μ-loop : tie.MeasureT-loop
-μ-loop waves colours shutter row₀ fixed k₀ row k = fixed - k
+μ-loop fixed colours shutter row₀ all k₀ row k = all - k
 
 loop-holds : tie.Need-loop-holds Inv-loop μ-loop
 loop-holds c =
     let a = c .before .before .args in
-    let w = take (a .colours) (a .waves .now) in
+    let w = take (a .colours) (a .fixed .now) in
     let i = c .before .if1 in (
       c .least .ensures,
       omega arith,
@@ -40,7 +40,7 @@ loop-again c =
     let h = c .before .before .loop in (
       h .inv .0,
       omega arith,
-      waved-more (a .shutter) (take (a .colours) (a .waves .now)) (h .row) (h .k) _ (omega arith)
+      waved-more (a .shutter) (take (a .colours) (a .fixed .now)) (h .row) (h .k) _ (omega arith)
           (toZ-pos w32 (c .wave .result * 64) (omega arith) ∙ ap pos (rw (c .wave .ensures .0) refl)) (h .inv .2),
     )
 
@@ -49,8 +49,8 @@ returns c =
     let a = c .before .before .before .before .args in
     let h = c .before .loop in (
       h .inv .2 .0,
-      waved-all (a .shutter) (take (a .colours) (a .waves .now)) (h .row) (h .k)
-          (λ j u b. getD-take-past (a .waves .now) (a .colours) j (omega arith)) (h .inv .2),
+      waved-all (a .shutter) (take (a .colours) (a .fixed .now)) (h .row) (h .k)
+          (λ j u b. getD-take-past (a .fixed .now) (a .colours) j (omega arith)) (h .inv .2),
     )
 
 pub template-spec : {M : Type 1} → statement M

@@ -2,61 +2,80 @@
 use Prim.Native.Nat.{_+_, _-_, _*_, _≤_}
 use native.Mathlib.Nat.{zero-mul}
 use native.Mathlib.Omega.{arith}
-use mathlib.Core.Path.{_≡_, refl, sym, _∙_, ap}
+use mathlib.Core.Path.{_≡_, refl, sym}
 use lib.ListN.{length, take}
+use lib.Seq.{length-take-le}
 use borrow.Author.Needs.{needs}
-use Rattle.samples.specs.Codes.{litBy, countBy}
-use Rattle.samples.proofs.PointLaws.{times-more, times-within, part-is, countBy-more, bit-le}
+use borrow.Rule.Slice.PartMut.{mid-len}
+use Rattle.samples.specs.Limits.{rowSize}
+use Rattle.samples.specs.Points.{litIn}
+use Rattle.samples.proofs.PointLaws.{times-more, times-within, sample-is, lit-one}
 use Rattle.samples.proofs.points.count_lit.Statement.{statement}
 use Rattle.samples.proofs.points.count_lit.Tie as tie
 
 abbrev Inv-loop : tie.InvT-loop
-Inv-loop codes n place width samples octets lit₀ i₀ at₀ lit i at =
-    (i ≤ samples) × (at ≡ i * width) × (lit ≤ i) × (lit ≡ countBy (take n codes) place width octets i)
+Inv-loop roles width samples octets fixed row₀ lit₀ i₀ at₀ row lit i at =
+    (i ≤ samples) × (at ≡ i * width) × (lit ≤ i) × (length row ≡ rowSize) × (lit ≡ litIn (take width roles) octets i)
 
 abbrev μ-loop : tie.MeasureT-loop
-μ-loop codes n place width samples octets lit₀ i₀ at₀ lit i at = samples - i
+μ-loop roles width samples octets fixed row₀ lit₀ i₀ at₀ row lit i at = samples - i
 
 -- ---- the steps, each from the one after it
 
 abbrev start-of : tie.At-loop Inv-loop μ-loop → tie.Start Inv-loop μ-loop
 start-of c = c .before .before
 
-abbrev turn-at : tie.After-bit Inv-loop μ-loop → tie.In-loop Inv-loop μ-loop
-turn-at c = c .before .before .before
+abbrev turn-at : tie.After-draw-all-arg Inv-loop μ-loop → tie.In-loop Inv-loop μ-loop
+turn-at c = c .before .before
 
 -- ---- the needs
 
 loop-holds : tie.Need-loop-holds Inv-loop μ-loop
-unfolding countBy
-loop-holds c = (omega arith, sym (zero-mul _), omega arith, refl)
+unfolding litIn
+loop-holds c = (omega arith, sym (zero-mul _), omega arith, search needs, refl)
 
 -- the sample lies within the octets
-within : (c : tie.In-loop Inv-loop μ-loop) →
+octets-within : (c : tie.In-loop Inv-loop μ-loop) →
     c .before .loop .i * start-of (c .before) .args .width + start-of (c .before) .args .width
     ≤ length (start-of (c .before) .args .octets .now)
-within c = times-within _ _ _ _ (c .loop-test .taken) (start-of (c .before) .pre .0)
+octets-within c = times-within _ _ _ _ (c .loop-test .taken) (start-of (c .before) .pre .2)
+
+draw-all-requires : tie.Need-draw-all-requires Inv-loop μ-loop
+draw-all-requires c κs =
+    let t = turn-at (c .before) in
+    let a = start-of (t .before) in
+    let h = t .before .loop in
+    let w = mid-len (h .at) (h .at + a .args .width) (a .args .octets .now) (omega (arith, octets-within t)) in
+    (a .pre .0, a .pre .1, omega (arith, w), omega (arith, h .inv .3))
+
+counted : (c : tie.After-draw-all Inv-loop μ-loop) →
+    (c .draw-all .result ≤ 1)
+    × (turn-at (c .before .before) .before .loop .lit + c .draw-all .result ≡ litIn (take (start-of (turn-at (c .before .before) .before) .args .width) (start-of (turn-at (c .before .before) .before) .args .roles .now)) (start-of (turn-at (c .before .before) .before) .args .octets .now) (turn-at (c .before .before) .before .loop .i + 1))
+counted c =
+    let t = turn-at (c .before .before) in
+    let a = start-of (t .before) in
+    let h = t .before .loop in
+    let roles = take (a .args .width) (a .args .roles .now) in
+    lit-one roles (a .args .octets .now) _ (h .i)
+    (sample-is roles (a .args .octets .now) (a .args .width) (h .i) (h .at) (length-take-le _ _ (a .pre .1)) (h .inv .1))
+    _ (h .lit) (c .draw-all .ensures .1) (h .inv .4)
 
 loop-again : tie.Need-loop-again Inv-loop μ-loop
 loop-again c =
-    let a = start-of (turn-at c .before) .args in
-    let h = turn-at c .before .loop in (
+    let t = turn-at (c .before .before .before) in
+    let h = t .before .loop in (
       omega arith,
-      (rw (times-more (h .i) (a .width)) (omega arith)),
-      omega (arith, bit-le (c .before .lit .result) (c .bit .result) (c .bit .ensures)),
-      countBy-more (take (a .n) (a .codes .now)) (a .place) (a .width) (h .i) (c .bit .result) (h .lit) (a .octets .now) (c .before .lit .result)
-          (c .before .lit .ensures ∙ ap (litBy (take (a .n) (a .codes .now)) (a .place)) (part-is (a .width) (h .i) (h .at) (a .octets .now) (h .inv .1)))
-          (c .bit .ensures) (h .inv .3),
+      (rw (times-more (h .i) (start-of (t .before) .args .width)) (omega arith)),
+      omega (arith, counted (c .before) .0),
+      search needs,
+      counted (c .before) .1,
     )
-
-add-lit : tie.Need-add-lit Inv-loop μ-loop
-add-lit c = omega (arith, bit-le (c .before .lit .result) (c .bit .result) (c .bit .ensures))
 
 returns : tie.Need-returns Inv-loop μ-loop
 returns c =
     let h = c .before .loop in
     let e : h .i ≡ start-of (c .before) .args .samples = omega arith in
-    rw e at (h .inv .3)
+    rw e at (h .inv .4)
 
 pub count-lit-spec : {M : Type 1} → statement M
 count-lit-spec =
@@ -65,13 +84,13 @@ count-lit-spec =
     Inv-loop
     μ-loop
     loop-holds
-    (λ c. omega (arith, within c))
+    (λ c. omega (arith, octets-within c))
     (λ c. omega arith)
     (λ c. omega arith)
-    (λ c. omega (arith, within c))
-    (λ c κs. omega arith)
-    (λ c κs. search needs)
-    add-lit
+    (λ c. omega (arith, octets-within (c .before)))
+    (λ c. search needs)
+    draw-all-requires
+    (λ c. omega (arith, counted (c .before) .0))
     (λ c. omega arith)
     (λ c. omega arith)
     loop-again

@@ -1,18 +1,35 @@
--- `draw`: the five steps, in the order of `rowBy`.
-use Prim.Native.Nat.{ℕ, _*_, _/_, _%_}
+-- `draw`: the steps, each over the row that the one before it left.
 use native.Mathlib.Omega.{arith}
-use mathlib.Core.Path.{_≡_, refl, sym, _∙_, ap}
-use mathlib.Core.Bool.{Bool, true, false}
-use mathlib.Core.List.{List}
-use lib.ListN.{getD, set, length-set}
-use lib.IntN.{ℤ}
-use mir.Syntax.{w32}
-use mir.ValLaws.{toZ-pos}
+use mathlib.Core.Path.{_≡_, sym, _∙_, ap}
+use mathlib.Core.Bool.{true, false}
+use lib.ListN.{length}
 use borrow.Author.Needs.{needs}
-use Rattle.samples.specs.Codes.{slice, Plan, signedIn, numberIn, scaledIn, putAll, someLit, shuttered, rowBy, litBy, planOf}
-use Rattle.samples.proofs.CodeLaws.{listed-front}
+use Rattle.samples.specs.declared.plan.Plan.{Plan}
+use Rattle.samples.specs.Limits.{colourLimit, rowSize}
+use Rattle.samples.specs.Signals.{Readable}
+use Rattle.samples.specs.Plan.{planOf, singlesOver}
+use Rattle.samples.proofs.SignalLaws.{readable-both}
+use Rattle.samples.proofs.RowLaws.{drawn}
+use Rattle.samples.proofs.LitLaws.{lit-drawn}
 use Rattle.samples.proofs.row.draw.Statement.{statement}
 use Rattle.samples.proofs.row.draw.Tie as tie
+
+-- ---- the lists
+
+module _ (c : tie.Start) where
+  abbrev plan : Plan
+  plan =
+      planOf (c .args .template .now) (c .args .fine-coordinates .now) (c .args .coordinates .now) (c .args .fine-colours .now)
+      (c .args .colours .now) (c .args .fine-waves .now) (c .args .waves .now) (c .args .singles)
+
+  coordinates : Readable (plan .coordinates .fine) true (length (c .args .sample .now)) × Readable (plan .coordinates .coarse) false (length (c .args .sample .now))
+  coordinates = let r = c .pre .1 in readable-both _ _ _ 0 5 5 (omega arith) (omega arith) _ _ _ (r .sized) (r .planned .coordinates)
+
+  colours : Readable (plan .colours .fine) true (length (c .args .sample .now)) × Readable (plan .colours .coarse) false (length (c .args .sample .now))
+  colours = let r = c .pre .1 in readable-both _ _ _ 8 colourLimit colourLimit (omega arith) (omega arith) _ _ _ (r .sized) (r .planned .colours)
+
+  waves : Readable (plan .waves .fine) true (length (c .args .sample .now)) × Readable (plan .waves .coarse) false (length (c .args .sample .now))
+  waves = let r = c .pre .1 in readable-both _ _ _ 16 colourLimit colourLimit (omega arith) (omega arith) _ _ _ (r .sized) (r .planned .wavelengths)
 
 -- ---- the steps, each from the one after it
 
@@ -22,110 +39,108 @@ octet-at c = c .before .before
 abbrev start-of : tie.After-copy → tie.Start
 start-of c = octet-at c .before .before
 
-abbrev copy-at : tie.After-put-signed → tie.After-copy
+abbrev copy-at : tie.After-put-singles → tie.After-copy
 copy-at c = c .before .before .before
 
-abbrev coordinates-at : tie.After-put-scaled → tie.After-put-signed
-coordinates-at c = c .before .before .before
+abbrev singles-at : tie.After-put-scaled → tie.After-put-singles
+singles-at c = c .before .before .before
 
-abbrev plains-at : tie.After-put-scaled2 → tie.After-put-scaled
-plains-at c = c .before .before .before
+abbrev colour-at : tie.After-put-scaled2 → tie.After-put-scaled
+colour-at c = c .before .before .before
 
-abbrev colours-at : tie.After-put-scaled3 → tie.After-put-scaled2
+abbrev colours-at : tie.After-put-signed → tie.After-put-scaled2
 colours-at c = c .before .before .before
 
--- ---- what they made
+abbrev coordinate-at : tie.After-put-signed2 → tie.After-put-signed
+coordinate-at c = c .before .before .before
 
--- the rows after each step
-steps : (p : Plan) (sample : List ℕ) (h : ℕ) (row₁ row₂ row₃ row₄ row₅ : List ℤ) → h ≡ getD sample (p .hint) 0 → row₁ ≡ p .template → row₂ ≡ putAll (signedIn sample) (p .coordinates) row₁ → row₃ ≡ putAll (numberIn 0 sample) (p .plains) row₂ → row₄ ≡ putAll (numberIn (h / 64 * 2) sample) (p .colours) row₃ → row₅ ≡ putAll (numberIn (h / 16 % 4 * 2) sample) (p .intensity) row₄ → shuttered (p .shutter) h row₅ ≡ rowBy p sample
-unfolding rowBy
-steps p sample h row₁ row₂ row₃ row₄ row₅ eh e₁ e₂ e₃ e₄ e₅ = rw (e₅, e₄, e₃, e₂, e₁, eh) refl
+abbrev coordinates-at : tie.After-put-scaled3 → tie.After-put-signed2
+coordinates-at c = c .before .before .before
 
-shown : (colours sample : List ℕ) (place h : ℕ) (r : Bool) → h ≡ getD sample place 0 → r ≡ someLit (scaledIn (h / 64 * 2) sample) colours → r ≡ litBy colours place sample
-unfolding litBy
-shown colours sample place h r eh e = e ∙ rw eh refl
+abbrev wave-at : tie.After-put-scaled4 → tie.After-put-scaled3
+wave-at c = c .before .before .before
 
--- at the end, where the shutter is left
-module _ (c : tie.After-row5) where
-  abbrev at-colours : tie.After-put-scaled2
-  at-colours = colours-at (c .before)
+abbrev copied : tie.After-put-signed → tie.After-copy
+copied c = copy-at (singles-at (colour-at (colours-at c)))
 
-  abbrev at-coordinates : tie.After-put-signed
-  at-coordinates = coordinates-at (plains-at at-colours)
+-- ---- how long the row is
 
-  abbrev at-octet : tie.After-octet
-  at-octet = octet-at (copy-at at-coordinates)
+sized₂ : (c : tie.After-put-scaled2) → length (c .put-scaled2 .last .1 .1 .1 .1 .0) ≡ rowSize
+sized₂ c = search needs
 
-  abbrev at-start : tie.Start
-  at-start = start-of (copy-at at-coordinates)
+sized₄ : (c : tie.After-put-signed2) → length (c .put-signed2 .last .1 .1 .1 .0) ≡ rowSize
+sized₄ c = let h = sized₂ (colours-at (coordinate-at c)) in search needs
 
-  abbrev colours : List ℕ
-  colours = slice (at-start .args .ends .plains) (at-start .args .ends .colours) (at-start .args .codes .now)
-
-  abbrev last-row : List ℤ
-  last-row = c .before .put-scaled3 .last .1 .1 .1 .1 .1 .0
-
-  drawn : (flag : Bool) → at-start .args .ends .shutter ≡ flag → shuttered flag (at-octet .octet .result) last-row ≡ rowBy (planOf (at-start .args .template .now) (at-start .args .codes .now) (at-start .args .ends)) (at-start .args .sample .now)
-  drawn flag e =
-      ap (λ (f : Bool). shuttered f (at-octet .octet .result) last-row) (sym e)
-      ∙ steps _ _ _ _ _ _ _ _ (at-octet .octet .ensures .0) (copy-at at-coordinates .copy .ensures) (at-coordinates .put-signed .ensures)
-      (plains-at at-colours .put-scaled .ensures .0) (at-colours .put-scaled2 .ensures .0) (c .before .put-scaled3 .ensures .0)
-
-  lit-is : at-colours .put-scaled2 .result ≡ litBy colours (at-start .args .ends .hint) (at-start .args .sample .now)
-  lit-is = shown colours _ _ _ _ (at-octet .octet .ensures .0) (at-colours .put-scaled2 .ensures .1)
+sized₆ : (c : tie.After-put-scaled4) → length (c .put-scaled4 .last .1 .1 .1 .1 .0) ≡ rowSize
+sized₆ c = let h = sized₄ (coordinates-at (wave-at c)) in search needs
 
 -- ---- the needs
 
--- the codes up to the end of a kind
-put-signed-requires : tie.Need-put-signed-requires
-put-signed-requires c κs =
-    let o = start-of (c .before .before) .pre .2 in
-    (search needs, listed-front _ _ _ (o .listed) (omega (arith, o .coordinates, o .plains, o .colours)))
+copy-requires : tie.Need-copy-requires
+copy-requires c κs = (search needs, c .before .before .before .pre .1 .planned .sized)
 
 put-scaled-requires : tie.Need-put-scaled-requires
-put-scaled-requires c κs =
-    let o = start-of (copy-at (c .before .before)) .pre .2 in
-    (search needs, search needs, listed-front _ _ _ (o .listed) (omega (arith, o .plains, o .colours)))
+put-scaled-requires c κs = (search needs, search needs, colours (start-of (copy-at (c .before .before))) .0)
 
 put-scaled-requires-2 : tie.Need-put-scaled-requires-2
-put-scaled-requires-2 c κs =
-    let o = start-of (copy-at (coordinates-at (c .before .before))) .pre .2 in
-    (search needs, search needs, listed-front _ _ _ (o .listed) (o .colours))
+put-scaled-requires-2 c κs = (search needs, search needs, colours (start-of (copy-at (singles-at (c .before .before)))) .1)
+
+put-signed-requires : tie.Need-put-signed-requires
+put-signed-requires c κs =
+    let h = sized₂ (c .before .before) in
+    (search needs, coordinates (start-of (copy-at (singles-at (colour-at (c .before .before))))) .0)
+
+put-signed-requires-2 : tie.Need-put-signed-requires-2
+put-signed-requires-2 c κs =
+    let h = sized₂ (colours-at (c .before .before)) in
+    (search needs, coordinates (start-of (copied (c .before .before))) .1)
 
 put-scaled-requires-3 : tie.Need-put-scaled-requires-3
 put-scaled-requires-3 c κs =
-    (search needs, search needs, start-of (copy-at (coordinates-at (plains-at (c .before .before)))) .pre .2 .listed)
+    let h = sized₄ (c .before .before) in
+    (search needs, search needs, waves (start-of (copied (coordinate-at (c .before .before)))) .0)
+
+put-scaled-requires-4 : tie.Need-put-scaled-requires-4
+put-scaled-requires-4 c κs =
+    let h = sized₄ (coordinates-at (c .before .before)) in
+    (search needs, search needs, waves (start-of (copied (coordinate-at (coordinates-at (c .before .before))))) .1)
 
 same-length : tie.Need-same-length
-same-length c = simp length-set (search needs)
+same-length c = let h = sized₆ (c .before) in search needs
 
 returns : tie.Need-returns
-unfolding shuttered
-returns c = (
-  ap (λ (z : ℤ). set (last-row (c .before)) 5 z) (toZ-pos w32 (at-octet (c .before) .octet .result % 2) (omega arith))
-      ∙ drawn (c .before) true (c .if1 .taken),
-  lit-is (c .before),
-)
-
-returns-2 : tie.Need-returns-2
-unfolding shuttered
-returns-2 c = (drawn (c .before) false (c .if1 .left), lit-is (c .before))
+returns c d =
+    let w = c .before in
+    let k = coordinates-at (wave-at w) in
+    let h = colours-at (coordinate-at k) in
+    let s = singles-at (colour-at h) in
+    let t = copy-at s in
+    let p = plan (start-of t) in
+    let sample = start-of t .args .sample .now in
+    let hint = octet-at t .octet .ensures .0 in (
+      drawn p (d .roles) (d .waves) sample (d .planned) (sym (d .sized)) _ hint (s .put-singles .last .1 .1 .1 .0)
+          (colour-at h .put-scaled .last .1 .1 .1 .1 .0) (h .put-scaled2 .last .1 .1 .1 .1 .0) (coordinate-at k .put-signed .last .1 .1 .1 .0)
+          (k .put-signed2 .last .1 .1 .1 .0) (wave-at w .put-scaled3 .last .1 .1 .1 .1 .0) (w .put-scaled4 .last .1 .1 .1 .1 .0)
+          (s .put-singles .ensures ∙ ap (singlesOver (p .singles) _ sample) (t .copy .ensures)) (colour-at h .put-scaled .ensures .0)
+          (h .put-scaled2 .ensures .0) (coordinate-at k .put-signed .ensures) (k .put-signed2 .ensures) (wave-at w .put-scaled3 .ensures .0)
+          (w .put-scaled4 .ensures .0) (sized₆ w),
+      lit-drawn p (d .roles) (d .waves) sample (d .planned) (sym (d .sized)) _ hint _ _ (colour-at h .put-scaled .ensures .1) (h .put-scaled2 .ensures .1),
+    )
 
 pub draw-spec : {M : Type 1} → statement M
 draw-spec =
     tie.close
     (tie.spec
     (λ c κs. search needs)
+    copy-requires
     (λ c κs. search needs)
-    put-signed-requires
+    (λ c. search needs)
     put-scaled-requires
     (λ c. search needs)
     put-scaled-requires-2
-    (λ c. search needs)
+    put-signed-requires
+    put-signed-requires-2
     put-scaled-requires-3
-    (λ c. search needs)
-    (λ c. search needs)
+    put-scaled-requires-4
     same-length
-    returns
-    (λ c. search needs)
-    returns-2)
+    returns)

@@ -2,30 +2,23 @@
 use mathlib.Core.Path.{sym, _∙_}
 use borrow.Author.Needs.{needs}
 use borrow.Author.Tests.{eq-eqb, ne-eqb}
-use Rattle.tags.specs.Limits.{colourLimit}
 use Rattle.tags.specs.Tag.{isSingle}
 use Rattle.tags.specs.Dictionary.{roleFor}
-use Rattle.tags.proofs.ArrayLaws.{length-used}
 use Rattle.tags.proofs.gather.role_for.Statement.{statement}
 use Rattle.tags.proofs.gather.role_for.Tie as tie
 
 returns : tie.Need-returns
 unfolding roleFor
-returns c =
-    let l = c .before .before .before .args .p .layout in
-    rw (
-      sym (c .before .before .is-signal .ensures) ∙ c .before .if1 .taken,
-      length-used (l .waves) colourLimit (l .colours) (search needs) (search needs),
-      ← (c .slot-for .ensures .0),
-    )
+returns c = λ waves used roles.
+    rw (sym (c .before .before .is-signal .ensures) ∙ c .before .if1 .taken, used, ← (c .slot-for .ensures .0))
 
 returns-2 : tie.Need-returns-2
 unfolding roleFor isSingle
-returns-2 c = rw (c .if2 .taken)
+returns-2 c = λ waves used roles. rw (c .if2 .taken)
 
 returns-3 : tie.Need-returns-3
 unfolding roleFor
-returns-3 c =
+returns-3 c = λ waves used roles.
     rw (
       sym (c .before .before .before .is-signal .ensures) ∙ c .before .before .if1 .left,
       ne-eqb _ _ (c .before .if2 .left),
@@ -34,7 +27,7 @@ returns-3 c =
 
 returns-4 : tie.Need-returns-4
 unfolding roleFor
-returns-4 c =
+returns-4 c = λ waves used roles.
     rw (
       sym (c .before .before .before .is-signal .ensures) ∙ c .before .before .if1 .left,
       ne-eqb _ _ (c .before .if2 .left),

@@ -29,11 +29,11 @@ accepted-sample mode tags = go (eqb (dictionaryNumber mode tags) 0)
 
 returns : tie.Need-returns
 unfolding hostNumber hostSample
-returns c = rw (c .before .if1 .taken) (c .unlaid .ensures)
+returns c = rw (c .before .if1 .taken) (c .refused .ensures)
 
 returns-2 : tie.Need-returns-2
 unfolding hostNumber hostSample
-returns-2 c = rw (c .before .before .if1 .left, c .before .if2 .taken) (c .unlaid2 .ensures)
+returns-2 c = rw (c .before .before .if1 .left, c .before .if2 .taken) (c .refused2 .ensures)
 
 returns-3 : tie.Need-returns-3
 unfolding hostNumber hostSample

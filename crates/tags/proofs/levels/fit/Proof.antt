@@ -15,7 +15,7 @@ returns c =
     let subsets = mappingOf (at-held .before .args .dimmer) .subsets in
     rw (
       eq-eqb (length subsets) 0 (sym (at-held .held .ensures .0) ∙ c .before .before .if1 .taken),
-      c .whole-fits .ensures,
+      c .ends-within .ensures,
       c .before .whole-base .ensures,
     )
 

@@ -1,5 +1,4 @@
 -- `tags::levels::place_of` meets its contract.
-use native.Mathlib.Omega.{arith}
 use borrow.Author.Needs.{needs}
 use borrow.Author.Tests.{eq-eqb, ne-eqb}
 use Rattle.tags.proofs.levels.place_of.Statement.{statement}
@@ -9,10 +8,7 @@ returns : tie.Need-returns
 returns c = (rw (eq-eqb (c .before .args .mode) 6 (c .if1 .taken)), search needs)
 
 returns-2 : tie.Need-returns-2
-returns-2 c = (rw (ne-eqb (c .before .before .args .mode) 6 (c .before .if1 .left)) (omega arith), search needs)
-
-returns-3 : tie.Need-returns-3
-returns-3 c = (rw (ne-eqb (c .before .before .args .mode) 6 (c .before .if1 .left)), search needs)
+returns-2 c = (rw (ne-eqb (c .before .args .mode) 6 (c .if1 .left)), search needs)
 
 pub place-of-spec : {M : Type 1} → statement M
-place-of-spec = tie.close (tie.spec (λ c. search needs) returns returns-2 (λ c. search needs) returns-3)
+place-of-spec = tie.close (tie.spec (λ c. search needs) returns (λ c. search needs) returns-2)

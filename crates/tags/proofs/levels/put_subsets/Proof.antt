@@ -1,7 +1,8 @@
 -- `tags::levels::put_subsets` meets its contract. The loop's invariant: what is left to do from here, with the subsets and the octets
 -- left, gives what was to be done in all; and so do the two sums.
 use Prim.Native.Nat.{ℕ, _+_, _-_, _<_, _≤_}
-use mathlib.Core.Path.{_≡_, refl, sym, _∙_}
+use mathlib.Core.Path.{_≡_, refl, sym, ap, _∙_}
+use mathlib.Core.Bool.{cond}
 use native.Mathlib.Numerals.{add-one}
 use native.Mathlib.Omega.{arith}
 use mir.Syntax.{w8}
@@ -10,9 +11,9 @@ use lib.ListN.{length, getD, drop, drop-of-length-le}
 use borrow.Author.Needs.{needs}
 use Rattle.tags.specs.Limits.{subsetLimit}
 use Rattle.tags.specs.Layout.{mappingOf}
-use Rattle.tags.specs.Levels.{countSum, mappedSum, putSubsets}
+use Rattle.tags.specs.Levels.{countSum, mapped, mappedSum, putSubsets}
 use Rattle.tags.specs.LevelsLaws.{mapped-le-count}
-use Rattle.tags.proofs.LevelWriteLaws.{count-sum-turn, mapped-sum-turn, put-subsets-part}
+use Rattle.tags.proofs.LevelWriteLaws.{part-length, count-sum-turn, mapped-sum-turn, put-subsets-part}
 use Rattle.tags.specs.declared.Dimmer.{Dimmer}
 use Rattle.tags.proofs.levels.put_subsets.Statement.{statement}
 use Rattle.tags.proofs.levels.put_subsets.Tie as tie
@@ -42,8 +43,8 @@ turn-at c = c .before .before
 abbrev count-at : tie.After-put Inv-loop μ-loop → tie.After-count Inv-loop μ-loop
 count-at c = c .before .before .before
 
-abbrev put-at : tie.After-counted Inv-loop μ-loop → tie.After-put Inv-loop μ-loop
-put-at c = c .before .before .before
+abbrev put-at : tie.After-slice-known2 Inv-loop μ-loop → tie.After-put Inv-loop μ-loop
+put-at c = c .before .before
 
 -- ---- the needs
 
@@ -84,6 +85,19 @@ part-put-start c = search needs
 part-put-end : tie.Need-part-put-end Inv-loop μ-loop
 part-put-end c = within (turn-at c)
 
+-- what is counted of the turn's octets
+counted : (c : tie.After-put Inv-loop μ-loop)
+    → let at-loop = loop-at (turn-at (count-at c)) in
+    let d = start-of at-loop .args .t1 in
+    c .put .result ≡ cond (mapped (getD (d .bases) (at-loop .loop .j) 0) (getD (d .counts) (at-loop .loop .j) 0)) (getD (d .counts) (at-loop .loop .j) 0) 0
+counted c =
+    let at-loop = loop-at (turn-at (count-at c)) in
+    let start = start-of at-loop in
+    let d = start .args .t1 in
+    c .put .ensures .1
+    ∙ ap (λ (n : ℕ). cond (mapped (getD (d .bases) (at-loop .loop .j) 0) n) n 0)
+    (part-length (start .args .octets .now) (at-loop .loop .from) (getD (d .counts) (at-loop .loop .j) 0) (within (turn-at (count-at c))))
+
 add-written : tie.Need-add-written Inv-loop μ-loop
 add-written c =
     let at-turn = turn-at (count-at (put-at c)) in
@@ -93,6 +107,7 @@ add-written c =
     let t = turn at-turn in
     omega (
       arith,
+      counted (put-at c),
       mapped-sum-turn (d .count) (at-loop .loop .j) (d .bases) (d .counts) (t .held) (t .base) (t .count) (t .octet),
       mapped-le-count (mappingOf d .subsets),
       at-loop .loop .inv,
@@ -114,10 +129,10 @@ loop-again c =
       rw (add-one j)
           (omega (arith, count-sum-turn (d .count) j (d .bases) (d .counts) (t .held) (t .base) (t .count) (t .octet), at-loop .loop .inv)),
       rw (add-one j)
-          (omega (arith, mapped-sum-turn (d .count) j (d .bases) (d .counts) (t .held) (t .base) (t .count) (t .octet), at-loop .loop .inv)),
+          (omega (arith, counted at-put, mapped-sum-turn (d .count) j (d .bases) (d .counts) (t .held) (t .base) (t .count) (t .octet), at-loop .loop .inv)),
       rw (add-one j)
           (sym (put-subsets-part (d .count) j (d .bases) (d .counts) (t .held) (t .base) (t .count) (t .octet) (start .args .mode) (at-loop .loop .from)
-          (start .args .octets .now) (at-loop .loop .levels) (at-put .put .last .1 .1 .1 .0) (at-put .put .ensures))
+          (start .args .octets .now) (at-loop .loop .levels) (at-put .put .last .1 .1 .1 .0) (at-put .put .ensures .0))
           ∙ at-loop .loop .inv .4),
     )
 
@@ -146,7 +161,6 @@ put-subsets-spec =
     (λ c. search needs)
     part-put-start
     part-put-end
-    (λ c κs. search needs)
     (λ c κs. search needs)
     add-written
     (λ c. search needs)

@@ -16,17 +16,18 @@ returns c =
 
 returns-2 : tie.Need-returns-2
 returns-2 c =
-    let at-base = c .before .before .before .before .before in
+    let at-put = c .before .before in
+    let at-base = at-put .before .before in
     let at-held = at-base .before .before in
     let at-fit = at-held .before .before in
     let a = at-fit .before .before .before .args in
-    drawn-whole (a .mode) (mappingOf (a .dimmer)) (a .octets .now) (a .levels .now) (c .before .before .before .put .last .1 .1 .1 .0) (c .counted .result)
+    drawn-whole (a .mode) (mappingOf (a .dimmer)) (a .octets .now) (a .levels .now) (at-put .put .last .1 .1 .1 .0) (at-put .put .result)
     (at-base .whole-base .result)
     (sym (at-fit .fit .ensures) ∙ not-false _ (at-held .before .if1 .left))
     (sym (at-held .held .ensures .0) ∙ at-base .before .if2 .taken)
     (at-base .whole-base .ensures)
-    (c .before .before .before .put .ensures)
-    (c .counted .ensures)
+    (at-put .put .ensures .0)
+    (at-put .put .ensures .1)
 
 put-subsets-requires : tie.Need-put-subsets-requires
 put-subsets-requires c κs =
@@ -54,7 +55,6 @@ write-spec =
     (tie.spec
     (λ c κs. search needs)
     returns
-    (λ c κs. search needs)
     (λ c κs. search needs)
     (λ c κs. search needs)
     (λ c κs. search needs)

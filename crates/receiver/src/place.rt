@@ -1,0 +1,98 @@
+// The receiver on a record that stays where the host keeps it: its octets and its meters are lent, and left as those of the next receiver.
+// No call copies the record. A host in Rattle and one in C make the same calls; the call that takes a receiver as a value is made of them.
+use super::Readings;
+use super::Reply;
+use super::channels::settle;
+use super::header;
+use super::message::governing;
+use super::message::judge;
+use super::message::raise;
+use super::message::reply_of;
+use super::message::write;
+use super::record::METERS;
+use super::record::RECORD;
+use super::record::bare_reply;
+use super::record::clear;
+use super::record::is_record;
+use super::record::meter;
+use super::record::readings_of;
+use super::record::set_meters;
+use super::record::start_reply;
+use super::record::starting;
+use tags::kept::AREA;
+ghost use mathlib.Core.Path.{_≡_};
+ghost use Rattle.receiver.specs.Slices.{slices};
+ghost use Rattle.receiver.specs.Meters.{sums};
+ghost use Rattle.receiver.specs.Record.{recordIn};
+ghost use Rattle.receiver.specs.Contract.{outcome, StartedOn, Answered, readingsIn};
+
+// How many octets a host lends as the channels of a record.
+pub const CHANNEL_OCTETS: usize = RECORD;
+
+// How many meters it lends beside them.
+pub const METER_COUNT: usize = METERS;
+
+// Start on a record that is lent. Arrays of other lengths are no record, and stay as they are.
+#[no_mangle]
+pub extern "C" fn mewkoast_begin_on(
+    channels: &mut [u8],
+    meters: &mut [u64],
+    lit_time: u64,
+    points: u64,
+    lit_points: u64,
+) -> Reply
+    ensures { λ r. ⌜ StartedOn (sums «lit_time» points «lit_points») (recordIn (now (channels .entry)) (now (meters .entry))) (outcome (recordIn (now (channels .exit)) (now (meters .exit))) r) ⌝ }
+{
+    let whole = is_record(channels, meters);
+    if !whole {
+        return bare_reply(1);
+    }
+    clear(channels);
+    set_meters(meters, starting(lit_time, points, lit_points));
+    start_reply(lit_time, points, lit_points)
+}
+
+// One message offered with the slices lent for it, to a record that is lent too and left as the next one. Arrays of other lengths are no
+// record.
+#[no_mangle]
+pub extern "C" fn mewkoast_offer_on(
+    channels: &mut [u8],
+    meters: &mut [u64],
+    octets: &[u8],
+    rows: &mut [i32],
+    levels: &mut [u8],
+) -> Reply
+    ensures { λ r. ⌜ Answered (recordIn (now (channels .entry)) (now (meters .entry))) (now (octets .entry)) (slices (now (rows .entry)) (now (levels .entry))) (outcome (recordIn (now (channels .exit)) (now (meters .exit))) r) (slices (now (rows .exit)) (now (levels .exit))) ⌝ }
+{
+    let whole = is_record(channels, meters);
+    if !whole {
+        return bare_reply(1);
+    }
+    let sums = readings_of(meters[0], meters[1], meters[2]);
+    let h = header::read(octets);
+    let mut area = [0u8; AREA];
+    let found = governing(channels, sums, octets, h, &mut area);
+    let number = judge(
+        found,
+        &area,
+        channels,
+        sums,
+        h,
+        octets,
+        rows.len(),
+        levels.len(),
+    );
+    let config = found.config;
+    let drawn = write(number, h, config, &area, octets, rows, levels);
+    settle(number, h, config, &area, channels);
+    raise(meters, sums, drawn);
+    reply_of(number, h, config, &area, drawn)
+}
+
+// The three readings of meters that are lent.
+#[no_mangle]
+pub extern "C" fn mewkoast_readings_on(meters: &[u64]) -> Readings
+    ensures { λ r. ⌜ r ≡ readingsIn (now (meters .entry)) ⌝ }
+{
+    readings_of(meter(meters, 0), meter(meters, 1), meter(meters, 2))
+}
