@@ -25,7 +25,7 @@
 #include <stddef.h>
 #include <stdint.h>
 
-#define MEWKOAST_VERSION "0.5.0"
+#define MEWKOAST_VERSION "0.6.0"
 
 #ifdef __cplusplus
 extern "C" {
@@ -117,7 +117,9 @@ mewkoast_checked_dictionary mewkoast_layout(uint32_t mode, const uint8_t *tags,
 /*
  * Draws samples as rows of 24 numbers, one after the other from the start of
  * `rows`, and returns how many of the points are lit: those with a colour
- * slot that is not 0.
+ * slot that is not 0. It is not told whether the samples are a frame's: the
+ * receiver never counts a frame's first point as lit, this call does where it
+ * has a colour.
  *
  * Slots of a row: 0 X, 1 Y, 2 Z, 3 second X, 4 second Y, 5 shutter,
  * 6 intensity, 7 brush, 8 to 15 the colours in dictionary order, 16 to 23
@@ -251,9 +253,16 @@ typedef struct {
  *
  * An accepted message has number 0, its channel, chunk type and timestamp, the
  * space modifier in force (0 if none), its points, lit points and the levels
- * written. A range of levels that is not within 1 to 512, which no dimmer tags
- * give but a record that the host changed may hold, takes its octets from the
- * message like a dropped one: it is passed over and does not count as written.
+ * written.
+ *
+ * A point is lit when a colour slot of its row is not 0. But the first point of
+ * a frame (chunk type 0x02) only moves the mirrors: it counts among the points
+ * and never as lit, whatever its row holds, and a frame lit only there adds no
+ * time to the meters.
+ *
+ * A range of levels that is not within 1 to 512, which no dimmer tags give but
+ * a record that the host changed may hold, takes its octets from the message
+ * like a dropped one: it is passed over and does not count as written.
  */
 typedef struct {
     uint8_t number;

@@ -176,6 +176,17 @@ impl Reply {
     }
 }
 
+/// Where the code of the calls that take and leave a record stands, to tell it
+/// from that of another archive.
+pub fn addresses() -> [*const (); 4] {
+    [
+        mewkoast_start as *const (),
+        mewkoast_message as *const (),
+        mewkoast_begin_on as *const (),
+        mewkoast_offer_on as *const (),
+    ]
+}
+
 // SAFETY, of each call below: the pointers and lengths are those of slices,
 // and a slice that is written is borrowed alone.
 

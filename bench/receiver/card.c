@@ -110,6 +110,8 @@ static uint8_t take_samples(struct card *card, const struct card_samples *plan,
     uint32_t points = (uint32_t)((uint64_t)octets * plan->reciprocal >> 32);
     uint32_t duration = word_at(m->data) & 0xFFFFFF;
     const uint8_t *samples = m->data + CHUNK_HEADER;
+    /* C-11: the first point of a frame is never lit. */
+    uint32_t start = m->type == TYPE_FRAME && points != 0;
     uint32_t lit;
 
     if (points * plan->width != octets ||
@@ -122,9 +124,10 @@ static uint8_t take_samples(struct card *card, const struct card_samples *plan,
     /* With every point lit the meters still fit, but for the last hours. */
     if ((card->lit_time + duration > CARD_LIMIT ||
          card->lit_points + points > CARD_LIMIT) &&
-        passes_limit(card, plan, samples, points, duration))
+        passes_limit(card, plan, samples + start * plan->width, points - start, duration))
         return 23;
     lit = card_draw(plan, samples, points, lent->rows);
+    lit -= start != 0 && card_lit(lent->rows);
     card->lit_time += lit != 0 ? duration : 0;
     card->points += points;
     card->lit_points += lit;

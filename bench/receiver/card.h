@@ -129,4 +129,7 @@ uint32_t card_draw(const struct card_samples *plan, const uint8_t *samples,
 uint32_t card_count_lit(const struct card_samples *plan, const uint8_t *samples,
                         uint32_t points);
 
+/* Whether a colour of a row is not 0. */
+int card_lit(const int32_t *row);
+
 #endif

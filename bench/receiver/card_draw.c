@@ -133,6 +133,15 @@ uint32_t card_draw(const struct card_samples *plan, const uint8_t *samples,
     return lit;
 }
 
+int card_lit(const int32_t *row)
+{
+    int32_t any = 0;
+
+    for (int k = 0; k < 8; k++)
+        any |= row[COLOURS + k];
+    return any != 0;
+}
+
 /* For meters near their limit: nothing that is lent may be written yet. */
 uint32_t card_count_lit(const struct card_samples *plan, const uint8_t *samples,
                         uint32_t points)

@@ -1,11 +1,11 @@
 //! The data section under a governing configuration: document 01, "Chunks"
-//! and checks 17 to 22.
+//! and checks 17 to 22, and request C-11.
 
 use crate::dictionary::Layout;
 use crate::dimmer::{self, Map, PLACES};
 use crate::message::{FRAME, LEVELS, VOID, WAVE};
 use crate::route::{Governing, Tags};
-use crate::rows::{lit, points, row, Row};
+use crate::rows::{lit_points, points, row, Row};
 
 /// The lengths of the slices lent with a message.
 #[derive(Clone, Copy, Debug, PartialEq, Eq)]
@@ -20,6 +20,8 @@ pub enum Content {
     Nothing,
     Points {
         rows: Vec<Row>,
+        /// How many of the rows count as lit.
+        lit_points: usize,
         duration: u64,
     },
     /// Dimmer levels: the octets and how many of them are written.
@@ -39,7 +41,7 @@ impl Content {
 
     pub fn lit_points(&self) -> usize {
         match self {
-            Content::Points { rows, .. } => rows.iter().filter(|row| lit(row)).count(),
+            Content::Points { lit_points, .. } => *lit_points,
             _ => 0,
         }
     }
@@ -53,7 +55,8 @@ impl Content {
 
     /// "An accepted wave or frame in mode 1 or 2 adds its Duration to the
     /// first if one of its points is lit, its points to the second, its lit
-    /// points to the third."
+    /// points to the third"; request C-11: "a frame lit only there adds no
+    /// Duration".
     pub fn adds(&self) -> [u64; 3] {
         let lit_points = self.lit_points() as u64;
         let duration = match self {
@@ -124,11 +127,13 @@ fn samples(
     }
     // "24-bit Duration in microseconds".
     let duration = u32::from_be_bytes([0, header[1], header[2], header[3]]);
+    let rows: Vec<Row> = samples
+        .chunks_exact(layout.width())
+        .map(|sample| row(layout, sample))
+        .collect();
     Ok(Content::Points {
-        rows: samples
-            .chunks_exact(layout.width())
-            .map(|sample| row(layout, sample))
-            .collect(),
+        lit_points: lit_points(kind, &rows),
+        rows,
         duration: u64::from(duration),
     })
 }

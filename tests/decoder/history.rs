@@ -3,7 +3,7 @@
 
 use crate::chunk::Lent;
 use crate::lookback::{sums, verdicts, Offered};
-use crate::receiver_table::{routed, FRAME_OF_TWO};
+use crate::receiver_table::{routed, FRAME_OF_TWO, PLAIN};
 use crate::table::octets;
 
 /// A list with the numbers that "Meters and the look-back rule" gives it,
@@ -15,7 +15,7 @@ fn list() -> Vec<(u32, Vec<u8>)> {
         changed[place] = octet;
         changed
     };
-    let wave = routed(1, 1, 1, "4200 4210 527E 0000", &[1; 60]);
+    let wave = routed(1, 1, 1, PLAIN, &[1; 60]);
     let (wave_6, wave_7) = (with(2, 0xC6, &wave), with(2, 0xC7, &wave));
     let void = octets("0008850000000000");
     vec![
@@ -42,17 +42,22 @@ fn list() -> Vec<(u32, Vec<u8>)> {
     ]
 }
 
-#[test]
-fn list_by_hand() {
-    let list = list();
+/// The messages, each with rows for 20 points.
+pub fn offered<'a>(messages: impl IntoIterator<Item = &'a Vec<u8>>) -> Vec<Offered<'a>> {
     let lent = Lent {
         rows: 480,
         levels: 0,
     };
-    let offered: Vec<Offered> = list
-        .iter()
-        .map(|(_, octets)| Offered { octets, lent })
-        .collect();
+    messages
+        .into_iter()
+        .map(|octets| Offered { octets, lent })
+        .collect()
+}
+
+#[test]
+fn list_by_hand() {
+    let list = list();
+    let offered = offered(list.iter().map(|(_, octets)| octets));
     let verdicts = verdicts([1, 2, 3], &offered);
     let numbers: Vec<u32> = verdicts.iter().map(|verdict| verdict.number).collect();
     let expected: Vec<u32> = list.iter().map(|(number, _)| *number).collect();

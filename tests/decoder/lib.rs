@@ -1,6 +1,6 @@
-//! A second decoder, written from document 01 and source document 003 alone.
-//! The tests compare the proved functions with it. What generates messages for
-//! the comparisons is in tests/generate.
+//! A second decoder, written from document 01, request C-11 of document 02 and
+//! source document 003 alone. The tests compare the proved functions with it.
+//! What generates messages for the comparisons is in tests/generate.
 
 pub mod chunk;
 pub mod dictionary;
@@ -15,6 +15,8 @@ pub mod rows;
 // The paper's bench table, and more cases worked out by hand.
 #[cfg(test)]
 mod edges;
+#[cfg(test)]
+mod first_point;
 #[cfg(test)]
 mod history;
 #[cfg(test)]

@@ -4,10 +4,8 @@
 use crate::listing::listing;
 use crate::message::MOST;
 use crate::receiver::{Receiver, Reply, LIMIT};
-use crate::receiver_table::{routed, Host, FRAME_OF_TWO};
+use crate::receiver_table::{routed, Host, FRAME_OF_TWO, PLAIN};
 use crate::table::octets;
-
-const PLAIN: &str = "4200 4210 527E 0000";
 
 /// "The length is below 8, above 65,280, or not Total Size", then 3, 4, 5.
 #[test]

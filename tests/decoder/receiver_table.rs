@@ -8,6 +8,9 @@ use crate::table::octets;
 pub const FRAME_OF_TWO: &str = "002EC502 00000000 04110102 42004010 42104010 527E5214 51CC0000
     10000064 80000001000000 7FFFFFFF008000";
 
+/// Samples of three octets: X, Y and one colour.
+pub const PLAIN: &str = "4200 4210 527E 0000";
+
 /// A message with Routing of channel 5 and SDM 0: the words, filled up with
 /// zeros to whole 32-bit words, then the flags, a duration of 100 and what
 /// stands after it. The octets of Total Size are set.
@@ -79,6 +82,8 @@ fn a_frame() {
     );
 }
 
+/// Frames of two points alike, of which the first never counts as lit
+/// (request C-11).
 #[test]
 fn b_to_d_rows() {
     let colour = |words: &str, sample: &str| {
@@ -88,17 +93,17 @@ fn b_to_d_rows() {
         assert_eq!((reply.number, reply.points), (0, 2));
         assert_eq!(
             host.receiver.readings()[0],
-            if reply.lit_points == 2 { 100 } else { 0 }
+            if reply.lit_points == 1 { 100 } else { 0 }
         );
         (host.rows[32], host.rows[40], reply.lit_points)
     };
     let hinted = "4200 4210 527E 4100";
-    assert_eq!(colour(hinted, "0000FF40"), (16320, 40832, 2));
-    assert_eq!(colour(hinted, "0000FFC0"), (1020, 40832, 2));
+    assert_eq!(colour(hinted, "0000FF40"), (16320, 40832, 1));
+    assert_eq!(colour(hinted, "0000FFC0"), (1020, 40832, 1));
     assert_eq!(colour("4200 4210 5C00 5000", "00008500"), (0, 34048, 0));
     let precise = "4200 4210 527E 4010 4100";
     assert_eq!(colour(precise, "0000003FC0"), (0, 40832, 0));
-    assert_eq!(colour(precise, "00000040C0"), (1, 40832, 2));
+    assert_eq!(colour(precise, "00000040C0"), (1, 40832, 1));
 }
 
 #[test]
@@ -123,9 +128,8 @@ fn e_and_f_levels() {
 
 #[test]
 fn g_counts_of_samples() {
-    let plain = "4200 4210 527E 0000";
     let number = |kind: u8, mode: u8, samples: usize| {
-        Host::new().number(&routed(kind, 1, mode, plain, &vec![1; 3 * samples]))
+        Host::new().number(&routed(kind, 1, mode, PLAIN, &vec![1; 3 * samples]))
     };
     assert_eq!(number(1, 1, 19), 20);
     assert_eq!(number(1, 1, 20), 0);

@@ -1,4 +1,4 @@
-//! Samples to rows: document 01, "One row", and check 20.
+//! Samples to rows: document 01, "One row", check 20 and request C-11.
 
 use crate::dictionary::{
     Layout, Part, Wavelength, COLOURS, INTENSITY, SECOND_Y, SHUTTER, WAVELENGTHS,
@@ -59,6 +59,14 @@ fn scale(row: &mut Row, hint: u8) {
 /// A point is lit when a colour slot is not 0.
 pub fn lit(row: &Row) -> bool {
     row[COLOURS..WAVELENGTHS].iter().any(|colour| *colour != 0)
+}
+
+/// Request C-11: "a frame's first sample only moves the mirrors (003, 5.2).
+/// That point now counts among the points but never as lit". A wave has no
+/// such sample, so all its points count alike.
+pub fn lit_points(kind: u8, rows: &[Row]) -> usize {
+    let never_lit = usize::from(kind == FRAME);
+    rows.iter().skip(never_lit).filter(|row| lit(row)).count()
 }
 
 /// Check 20: the number of samples in a wave or frame.

@@ -1,8 +1,9 @@
 //! Which situations of document 01 the generated streams reach, and how
 //! often. Each of them must occur.
 
+use crate::first_point;
 use crate::random::Random;
-use crate::stream::{stream, Offer};
+use crate::stream::{stream, Offer, Stream};
 use decoder::message::{self, Message, FRAME, LEVELS, VOID, WAVE};
 use decoder::receiver::{added, Receiver, Reply, LIMIT};
 use decoder::route::{self, Governing, Tags};
@@ -11,15 +12,16 @@ use std::collections::BTreeMap;
 type Counts = BTreeMap<String, u64>;
 
 /// One message with what stood before it and what came of it.
-struct Case<'a> {
-    offer: &'a Offer,
-    message: Message<'a>,
+pub struct Case<'a> {
+    pub offer: &'a Offer,
+    pub message: Message<'a>,
     /// What governed the channel before the message.
     open: Option<Governing>,
     /// What governs the message, as far as it can be read.
-    governing: Governing,
-    reply: Reply,
-    meters: [u64; 3],
+    pub governing: Governing,
+    pub reply: Reply,
+    /// The readings before the message.
+    pub meters: [u64; 3],
 }
 
 impl Case<'_> {
@@ -37,6 +39,9 @@ impl Case<'_> {
             22 => count(counts, format!("22, type {}", self.message.kind)),
             23 => self.limits(counts),
             _ => {}
+        }
+        for situation in first_point::situations(self) {
+            count(counts, situation);
         }
     }
 
@@ -73,6 +78,16 @@ impl Case<'_> {
         if points > 0 && self.reply.lit_points == 0 {
             count(counts, format!("dark, mode {mode}"));
         }
+        if kind == FRAME && mode == 2 && points == 0 && self.passes_lit_time() {
+            count(counts, "frame of 0 points, longer than is left".into());
+        }
+    }
+
+    /// Its Duration is more than is left of the lit microseconds.
+    fn passes_lit_time(&self) -> bool {
+        let header = self.message.data;
+        let duration = u32::from_be_bytes([0, header[1], header[2], header[3]]);
+        self.meters[0] + u64::from(duration) > LIMIT
     }
 
     fn samples(&self, counts: &mut Counts) {
@@ -103,11 +118,11 @@ fn count(counts: &mut Counts, situation: String) {
     *counts.entry(situation).or_default() += 1;
 }
 
-fn follow(random: &mut Random, counts: &mut Counts) {
-    let stream = stream(random, 200);
+/// Offers a stream to the decoder's receiver and hands on each message that
+/// can be read and is governed by something. Gives the number of start.
+pub fn follow(stream: &Stream, mut note: impl FnMut(&Case)) -> u32 {
     let [lit_time, points, lit_points] = stream.start;
-    let (mut receiver, reply) = Receiver::start(lit_time, points, lit_points);
-    count(counts, format!("start {}", reply.number));
+    let (mut receiver, started) = Receiver::start(lit_time, points, lit_points);
     for offer in &stream.offers {
         let read = message::read(&offer.octets);
         let open = read
@@ -122,21 +137,21 @@ fn follow(random: &mut Random, counts: &mut Counts) {
         let mut levels = vec![0; offer.lent.levels];
         let reply = receiver.message(&offer.octets, &mut rows, &mut levels);
         if let (Ok(message), Some(governing)) = (read, own) {
-            let case = Case {
+            note(&Case {
                 offer,
                 message,
                 open,
                 governing,
                 reply,
                 meters,
-            };
-            case.note(counts);
+            });
         }
     }
+    started.number
 }
 
 /// Situations that do not depend on a mode or type.
-const SITUATIONS: [&str; 15] = [
+const SITUATIONS: [&str; 16] = [
     "19, routing false, open",
     "19, routing true, closed",
     "19, routing true, open",
@@ -146,6 +161,7 @@ const SITUATIONS: [&str; 15] = [
     "closed, routing true",
     "dark, mode 1",
     "dark, mode 2",
+    "frame of 0 points, longer than is left",
     "more than 1,024 levels lent",
     "rows exactly enough",
     "samples not whole",
@@ -192,11 +208,15 @@ fn situations_of_generated_streams() {
     let mut random = Random::new(2);
     let mut counts = Counts::new();
     for _ in 0..600 {
-        follow(&mut random, &mut counts);
+        let stream = stream(&mut random, 200);
+        let number = follow(&stream, |case| case.note(&mut counts));
+        count(&mut counts, format!("start {number}"));
     }
-    for situation in situations() {
-        let often = counts.get(&situation).copied().unwrap_or(0);
-        println!("{often} {situation}");
-        assert!(often >= 5, "{situation}: {often}");
+    let often = first_point::SITUATIONS.map(|(situation, least, _)| (situation.into(), least));
+    let any = situations().into_iter().map(|situation| (situation, 5));
+    for (situation, least) in any.chain(often) {
+        let count = counts.get(&situation).copied().unwrap_or(0);
+        println!("{count} {situation}");
+        assert!(count >= least, "{situation}: {count}");
     }
 }

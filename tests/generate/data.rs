@@ -1,13 +1,21 @@
 //! Random data sections: waves, frames and dimmer levels that fit what
 //! governs them, most of them.
 
+use crate::limits::aimed;
 use crate::random::Random;
+use crate::samples::samples;
+use decoder::dictionary::Layout;
 use decoder::dimmer::Map;
-use decoder::message::{LEVELS, MOST, VOID};
+use decoder::message::{LEVELS, VOID};
 use decoder::route::{Governing, Tags};
 
-/// A data section for a chunk type.
-pub fn data(random: &mut Random, governing: Option<&Governing>, kind: u8) -> Vec<u8> {
+/// A data section for a chunk type, with what is left of each meter.
+pub fn data(
+    random: &mut Random,
+    governing: Option<&Governing>,
+    kind: u8,
+    room: [u64; 3],
+) -> Vec<u8> {
     if kind == VOID && random.chance(85) {
         return Vec::new();
     }
@@ -25,7 +33,7 @@ pub fn data(random: &mut Random, governing: Option<&Governing>, kind: u8) -> Vec
             let count = random.below(40);
             random.octets(count)
         }
-        Tags::Graphic(layout) if kind != LEVELS => samples(random, layout.width()),
+        Tags::Graphic(layout) if kind != LEVELS => points(random, layout, kind, room, &mut data),
         Tags::Graphic(_) => random.octets(9),
         Tags::Dimmer(map) => levels(random, map),
     };
@@ -48,31 +56,22 @@ fn header(random: &mut Random, sdm: u8) -> Vec<u8> {
     vec![flags, high, middle, low]
 }
 
-/// Samples of a width: dark, with few octets that are not 0, or random.
-fn samples(random: &mut Random, width: usize) -> Vec<u8> {
-    let mut points = random.pick(&[
-        0, 0, 1, 2, 2, 3, 10, 19, 20, 20, 20, 21, 22, 25, 40, 100, 500,
-    ]);
-    if random.chance(1) {
-        points = random.pick(&[501, 1_000, (MOST - 1_100) / width]);
-    }
-    let mut octets = vec![0; points * width];
-    match random.below(3) {
-        0 => {}
-        1 => {
-            for _ in 0..random.pick(&[1, 2, 7]) {
-                if !octets.is_empty() {
-                    let place = random.below(octets.len());
-                    octets[place] = random.pick(&[1, 0x3F, 0x40, 0xFF]);
-                }
-            }
+/// Samples of any kind, or those of a wave or frame near the limit of a meter,
+/// with its Duration put in the header.
+fn points(
+    random: &mut Random,
+    layout: &Layout,
+    kind: u8,
+    room: [u64; 3],
+    header: &mut [u8],
+) -> Vec<u8> {
+    if random.chance(40) {
+        if let Some((duration, samples)) = aimed(random, layout, kind, room) {
+            header[1..4].copy_from_slice(&duration.to_be_bytes()[1..]);
+            return samples;
         }
-        _ => octets = random.octets(points * width),
     }
-    if random.chance(4) {
-        octets.push(random.octet());
-    }
-    octets
+    samples(random, layout)
 }
 
 /// As many levels as fit, most of the time; sometimes one more or fewer.

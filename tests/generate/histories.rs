@@ -1,12 +1,16 @@
-//! The decoder's receiver against its look-back rule on generated streams, and
-//! how often each number occurs in them.
+//! The decoder's receiver against its look-back rule on generated streams, how
+//! often each number occurs in them, and how many of them hold each situation
+//! of request C-11.
 
+use crate::coverage::follow;
 use crate::end_to_end::end_to_end;
+use crate::first_point;
 use crate::random::Random;
 use crate::stream::{stream, Offer, Stream};
 use decoder::listing::listing;
 use decoder::lookback::{sums, verdicts, Offered};
 use decoder::receiver::Receiver;
+use std::collections::BTreeSet;
 
 /// Counts the numbers of one stream and compares both ways of working them
 /// out.
@@ -31,14 +35,29 @@ fn compare(stream: &Stream, counts: &mut [u64; 24]) {
 fn generated_streams() {
     let mut random = Random::new(1);
     let mut counts = [0; 24];
+    let mut decided = Vec::new();
     for _ in 0..300 {
-        compare(&stream(&mut random, 200), &mut counts);
+        let stream = stream(&mut random, 200);
+        compare(&stream, &mut counts);
+        decided.push(first_points(&stream));
     }
     println!("{counts:?}");
     assert_eq!(counts[1], 0);
     for number in [0].into_iter().chain(2..24) {
         assert!(counts[number] >= 50, "number {number}: {counts:?}");
     }
+    for (situation, _, least) in first_point::SITUATIONS {
+        let count = decided.iter().filter(|of| of.contains(situation)).count();
+        println!("{count} histories: {situation}");
+        assert!(count >= least, "{situation}: {count}");
+    }
+}
+
+/// The situations of request C-11 that a history holds.
+fn first_points(stream: &Stream) -> BTreeSet<String> {
+    let mut list = BTreeSet::new();
+    follow(stream, |case| list.extend(first_point::situations(case)));
+    list
 }
 
 /// The same seed gives the same streams.

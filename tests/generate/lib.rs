@@ -8,12 +8,16 @@ mod damage;
 mod data;
 pub mod dictionaries;
 pub mod end_to_end;
+mod limits;
 pub mod random;
 pub mod random_dictionary;
+mod samples;
 pub mod stream;
 mod words;
 
 #[cfg(test)]
 mod coverage;
+#[cfg(test)]
+mod first_point;
 #[cfg(test)]
 mod histories;

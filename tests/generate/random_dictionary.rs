@@ -64,10 +64,7 @@ impl Random {
         if self.one_in(2) {
             groups.push(vec![self.space()]);
         }
-        for last in (1..groups.len()).rev() {
-            let other = self.below(last + 1);
-            groups.swap(last, other);
-        }
+        self.shuffle(&mut groups);
         groups.concat()
     }
 

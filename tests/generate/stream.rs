@@ -3,12 +3,13 @@
 
 use crate::damage::{damage, size};
 use crate::data::data;
+use crate::limits::{room, start};
 use crate::random::Random;
 use crate::words::words;
 use decoder::chunk::Lent;
 use decoder::lookback::Offered;
 use decoder::message::{self, Channel, FRAME, LEVELS, VOID, WAVE};
-use decoder::receiver::{Receiver, LIMIT};
+use decoder::receiver::Receiver;
 use decoder::route::{self, Governing, Tags};
 
 /// One message and the lengths of the slices lent with it.
@@ -81,35 +82,6 @@ pub fn stream(random: &mut Random, most: usize) -> Stream {
     Stream { start, offers }
 }
 
-/// Starting readings: 0, small, near the limit, at it or above it.
-fn start(random: &mut Random) -> [u64; 3] {
-    let near = random.chance(35);
-    let above = random.chance(4);
-    let mut reading = || {
-        let distances = [
-            0,
-            1,
-            2,
-            19,
-            20,
-            21,
-            100,
-            999,
-            1 << 14,
-            1 << 22,
-            1 << 24,
-            1 << 26,
-        ];
-        match random.below(4) {
-            0 if above => random.pick(&[LIMIT + 1, LIMIT + 2, u64::MAX]),
-            0 | 1 if near => LIMIT - random.pick(&distances),
-            2 => random.next() % LIMIT,
-            _ => random.pick(&[0, 0, 1, 4_294_967_295]),
-        }
-    };
-    [reading(), reading(), reading()]
-}
-
 /// Makes messages that fit what the receiver has come to, most of them.
 struct Maker {
     channels: Vec<u8>,
@@ -153,7 +125,7 @@ impl Maker {
         let channel = Channel(random.pick(&self.channels));
         let open = self.receiver.governing(channel);
         if random.chance(if open.is_some() { 30 } else { 75 }) {
-            return routing(random, channel);
+            return routing(random, channel, room(&self.receiver));
         }
         let kind = kind(random, open);
         let mut draft = Draft {
@@ -161,7 +133,7 @@ impl Maker {
             kind,
             header: None,
             words: Vec::new(),
-            data: data(random, open, kind),
+            data: data(random, open, kind, room(&self.receiver)),
         };
         if random.chance(45) {
             unrouted(random, &mut draft);
@@ -231,8 +203,8 @@ fn mode_and_service(random: &mut Random) -> (u8, u8) {
     (mode, service)
 }
 
-/// A message with Routing.
-fn routing(random: &mut Random, channel: Channel) -> Draft {
+/// A message with Routing, with what is left of each meter.
+fn routing(random: &mut Random, channel: Channel, room: [u64; 3]) -> Draft {
     let (mode, service) = mode_and_service(random);
     let sdm = random.pick(&[0, 0, 1, 2, 3]);
     let close = u8::from(random.chance(15)) << 1;
@@ -258,7 +230,7 @@ fn routing(random: &mut Random, channel: Channel) -> Draft {
             service,
             mode,
         ]),
-        data: data(random, governing.as_ref(), kind),
+        data: data(random, governing.as_ref(), kind, room),
         words,
     }
 }

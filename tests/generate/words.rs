@@ -22,7 +22,7 @@ fn dictionary(random: &mut Random, mode: u8) -> Vec<u8> {
     if random.chance(25) {
         spoil(random, &mut groups);
     }
-    shuffle(random, &mut groups);
+    random.shuffle(&mut groups);
     if groups.concat().len() % 2 == 1 {
         let place = random.between(0, groups.len());
         groups.insert(place, vec![random.pick(&[0x0000, 0x0000, 0x0000, 0x4000])]);
@@ -143,12 +143,6 @@ fn stretch<T: Clone>(groups: &mut Vec<Vec<T>>, most: usize, skips_15: T, skips_n
     }
 }
 
-fn shuffle<T>(random: &mut Random, list: &mut [T]) {
-    for place in (1..list.len()).rev() {
-        list.swap(place, random.below(place + 1));
-    }
-}
-
 /// Dimmer tags, filled up with Void tags to whole words.
 fn dimmer(random: &mut Random) -> Vec<u8> {
     let mut groups = match random.below(10) {
@@ -165,7 +159,7 @@ fn dimmer(random: &mut Random) -> Vec<u8> {
         groups.push([vec![skipped], random.octets(usize::from(skipped))].concat());
     }
     if random.chance(50) {
-        shuffle(random, &mut groups);
+        random.shuffle(&mut groups);
     }
     if random.chance(2) {
         stretch(&mut groups, 1_020, 0x0F, 0x00);

@@ -10,8 +10,8 @@ use lib.IntN.{ℤ}
 use lib.ListN.{length, length-drop}
 use lib.Dec.{leb, eqb, lit≤}
 use borrow.Author.Tests.{ltb-false, le-leb, eqb-true, not-false}
-use Rattle.tags.specs.Rows.{sampleOctets, pointsBy, litPointsBy, roomBy, drawnBy}
-use Rattle.tags.specs.RowsLaws.{litPoints-le-points, points-le-octets}
+use Rattle.tags.specs.Rows.{sampleOctets, pointsBy, roomBy, drawnBy}
+use Rattle.tags.specs.RowsLaws.{litPoints-behind-le-points, points-le-octets}
 use Rattle.tags.specs.Dictionary.{Sample}
 use Rattle.tags.specs.Dimmer.{Mapping}
 use Rattle.tags.specs.Kept.{sampleIn, mappingIn}
@@ -23,7 +23,7 @@ use Rattle.tags.specs.LevelsLaws.{levels-written-le}
 use Rattle.receiver.specs.Modes.{graphicMode, dimmerMode}
 use Rattle.receiver.specs.Governing.{Configuration}
 use Rattle.receiver.specs.Slices.{Slices, Lent, slices, lengths}
-use Rattle.receiver.specs.Chunk.{Chunk, chunk, isDrawing, isDimming, duration, body, pointsOf, litPointsOf, levelsOf}
+use Rattle.receiver.specs.Chunk.{Chunk, chunk, isDrawing, isDimming, duration, body, startSamples, litPointsFor, pointsOf, litPointsOf, levelsOf}
 use Rattle.receiver.specs.Meters.{addedBy}
 use Rattle.receiver.specs.Checks.{wrongCount, drawNumber, dimNumber, contentNumber}
 use Rattle.receiver.specs.Effects.{drawn}
@@ -90,6 +90,10 @@ module _ (k : Chunk) (v : Configuration) (lent : Lent) (passed : contentNumber k
 
 -- ---- how much a chunk holds
 
+-- no more points are lit than there are
+pub lit-le-points : (k : Chunk) (s : Sample) → litPointsFor k s ≤ pointsBy s (body k)
+lit-le-points k s = litPoints-behind-le-points s (startSamples (k .type)) (body k)
+
 module _ (k : Chunk) (h : length (k .octets) ≤ mostOctets) where
   pub body-few : length (body k) ≤ mostOctets
   body-few = rw length-drop (omega arith)
@@ -97,8 +101,8 @@ module _ (k : Chunk) (h : length (k .octets) ≤ mostOctets) where
   pub points-few : (s : Sample) → pointsBy s (body k) ≤ mostOctets
   points-few s = le-trans (points-le-octets s (body k)) body-few
 
-  pub lit-few : (s : Sample) (b : Bool) → cond b (litPointsBy s (body k)) 0 ≤ mostOctets
-  lit-few s true = le-trans (litPoints-le-points s (body k)) (points-few s)
+  pub lit-few : (s : Sample) (b : Bool) → cond b (litPointsFor k s) 0 ≤ mostOctets
+  lit-few s true = le-trans (lit-le-points k s) (points-few s)
   lit-few s false = omega arith
 
   pub levels-few : (m : Mapping) → levelsCounted m (length (body k)) ≤ mostOctets
@@ -126,7 +130,7 @@ module _ (t : ℕ) (octets : List ℕ) (k : Config) (area : List ℕ) (s : Slice
       → points ≡ pointsBy (sampleIn (k .size) (k .colours) area) (body this)
       → lit
       ≡ cond (roomBy (sampleIn (k .size) (k .colours) area) (body this) (s .rows))
-      (litPointsBy (sampleIn (k .size) (k .colours) area) (body this))
+      (litPointsFor this (sampleIn (k .size) (k .colours) area))
       0
       → time ≡ cond (eqb lit 0) 0 (duration this)
       → rows₁

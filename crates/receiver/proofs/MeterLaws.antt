@@ -7,18 +7,17 @@ use native.Mathlib.Nat.{add-zero}
 use native.Mathlib.Omega.{arith}
 use lib.Dec.{ltb, eqb}
 use borrow.Author.Tests.{ltb-false, le-ltb}
-use Rattle.tags.specs.Rows.{pointsBy, litPointsBy}
-use Rattle.tags.specs.RowsLaws.{litPoints-le-points}
+use Rattle.tags.specs.Rows.{pointsBy}
 use Rattle.tags.specs.Kept.{sampleIn}
 use Rattle.tags.specs.Choice.{refuse}
 use Rattle.tags.specs.ChoiceLaws.{or-false-left, or-false-right}
 use Rattle.receiver.specs.Governing.{Configuration}
-use Rattle.receiver.specs.Chunk.{Chunk, isDrawing, duration, body, pointsOf, litPointsOf}
+use Rattle.receiver.specs.Chunk.{Chunk, isDrawing, duration, body, litPointsFor, pointsOf, litPointsOf}
 use Rattle.receiver.specs.Meters.{Sums, sums, limit, overLimit, addedBy}
 use Rattle.receiver.specs.Checks.{meterNumber}
 use Rattle.receiver.specs.Record.{configurationOf}
 use Rattle.receiver.specs.declared.Config.{Config}
-use Rattle.receiver.proofs.ChunkLaws.{drawing-sample}
+use Rattle.receiver.proofs.ChunkLaws.{drawing-sample, lit-le-points}
 
 -- a chunk that draws nothing adds nothing
 pub meter-idle : (k : Chunk) (v : Configuration) (s : Sums) → isDrawing (k .type) v ≡ false → overLimit s ≡ false
@@ -29,7 +28,7 @@ meter-idle k v s d h = rw (d, add-zero (s .litTime), add-zero (s .points), add-z
 -- one that draws adds its Duration if a point is lit, its points and its lit points
 pub meter-drawing : (k : Chunk) (held : Config) (area : List ℕ) (s : Sums) (p l a : ℕ) → isDrawing (k .type) (configurationOf held area) ≡ true
     → p ≡ pointsBy (sampleIn (held .size) (held .colours) area) (body k)
-    → l ≡ litPointsBy (sampleIn (held .size) (held .colours) area) (body k)
+    → l ≡ litPointsFor k (sampleIn (held .size) (held .colours) area)
     → a ≡ cond (eqb l 0) 0 (duration k)
     → meterNumber k (configurationOf held area) s ≡ refuse (overLimit (sums (s .litTime + a) (s .points + p) (s .litPoints + l))) 23
 unfolding meterNumber addedBy pointsOf litPointsOf
@@ -50,11 +49,11 @@ pub meter-far : (k : Chunk) (held : Config) (area : List ℕ) (s : Sums) (p time
     → meterNumber k (configurationOf held area) s ≡ 0
 meter-far k held area s p time d ep et far =
     let sample = sampleIn (held .size) (held .colours) area in
-    let lit = litPointsBy sample (body k) in
+    let lit = litPointsFor k sample in
     meter-drawing k held area s p lit (cond (eqb lit 0) 0 (duration k)) d ep refl refl
     ∙ rw
     (far-from-limit (s .litTime) (s .points) (s .litPoints) time p (cond (eqb lit 0) 0 (duration k)) lit far (rw et (less (eqb lit 0)))
-    (rw ep (litPoints-le-points sample (body k))))
+    (rw ep (lit-le-points k sample)))
   where
     less : (b : Bool) → cond b 0 (duration k) ≤ duration k
     less true = omega arith

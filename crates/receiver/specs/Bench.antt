@@ -1,5 +1,5 @@
--- The bench table of document 01, cases a to h, worked out by the definitions: each row has what the definitions give and what the
--- paper says, and one proof, by computation, says that they are equal.
+-- The bench table of document 01, cases a to h, and a case of C-11, worked out by the definitions: each row has what the definitions
+-- give and what the paper says, and one proof, by computation, says that they are equal.
 use mathlib.Core.Path.{refl}
 use Prim.Native.Nat.{ℕ, _+_, _/_, _%_}
 use mathlib.Core.Bool.{Bool, cond}
@@ -61,6 +61,10 @@ messageA =
     ∷ 0x80 ∷ 0x00 ∷ 0x00 ∷ 0x01 ∷ 0x00 ∷ 0x00 ∷ 0x00
     ∷ 0x7F ∷ 0xFF ∷ 0xFF ∷ 0xFF ∷ 0x00 ∷ 0x80 ∷ 0x00 ∷ []
 
+-- C-11: case a with its two samples in the other order, so that only the first point is lit
+messageStart : List ℕ
+messageStart = take 32 messageA ++ drop 39 messageA ++ take 7 (drop 32 messageA)
+
 -- case b: 4200 4210 527E 4100
 tagsB : List ℕ
 tagsB = 0x42 ∷ 0x00 ∷ 0x42 ∷ 0x10 ∷ 0x52 ∷ 0x7E ∷ 0x41 ∷ 0x00 ∷ []
@@ -110,9 +114,10 @@ rowsA =
     ∷ pos 32767 ∷ negsuc 0 ∷ z ∷ z ∷ z ∷ pos 1 ∷ z ∷ z ∷ z ∷ pos 32768 ∷ z ∷ z ∷ z ∷ z ∷ z ∷ z ∷ pos 40832 ∷ pos 34048 ∷ pos 29440 ∷ z ∷ z ∷ z ∷ z ∷ z
     ∷ pos 7 ∷ pos 7 ∷ []
 
-replyA : List ℤ
-replyA =
-    let r = replyOf messageA 0 (governs messageA allClosed) in
+-- the listing's line of a message that is accepted
+replyTo : List ℕ → List ℤ
+replyTo m =
+    let r = replyOf m 0 (governs m allClosed) in
     pos (r .channel .0) ∷ pos (r .«chunk_type») ∷ pos (r .number) ∷ pos (r .points) ∷ pos (r .«lit_points») ∷ []
 
 pub table : List (Row ℤ)
@@ -120,8 +125,13 @@ table =
     -- a: accepted; the rows; the listing's line; the meters
     row (firstNumber messageA ∷ []) (z ∷ [])
     ∷ row (slicesAfter messageA 0 (governs messageA allClosed) (slices (replicate 50 (pos 7)) []) .rows) rowsA
-    ∷ row replyA (pos 5 ∷ pos 2 ∷ z ∷ pos 2 ∷ pos 1 ∷ [])
+    ∷ row (replyTo messageA) (pos 5 ∷ pos 2 ∷ z ∷ pos 2 ∷ pos 1 ∷ [])
     ∷ row (sumsList (historySums (sums 0 0 0) (offer messageA (lent 12000 1024) ∷ []))) (pos 100 ∷ pos 2 ∷ pos 1 ∷ [])
+    -- C-11: accepted; the same two rows with their colours; two points and no lit one; no Duration
+    ∷ row (firstNumber messageStart ∷ []) (z ∷ [])
+    ∷ row (slicesAfter messageStart 0 (governs messageStart allClosed) (slices (replicate 50 (pos 7)) []) .rows) (take 24 (drop 24 rowsA) ++ take 24 rowsA ++ drop 48 rowsA)
+    ∷ row (replyTo messageStart) (pos 5 ∷ pos 2 ∷ z ∷ pos 2 ∷ z ∷ [])
+    ∷ row (sumsList (historySums (sums 0 0 0) (offer messageStart (lent 12000 1024) ∷ []))) (z ∷ pos 2 ∷ z ∷ [])
     -- b
     ∷ row (slotIn 8 1 tagsB (0 ∷ 0 ∷ 0xFF ∷ 0x40 ∷ [])) (pos 16320 ∷ [])
     ∷ row (slotIn 8 1 tagsB (0 ∷ 0 ∷ 0xFF ∷ 0xC0 ∷ [])) (pos 1020 ∷ [])
@@ -142,5 +152,5 @@ table =
     ∷ []
 
 pub bench : Agrees table
-unfolding routingMessage firstNumber zerosChunk sumsList bit messageA tagsB tagsC tagsD tagsE tagsF tagsF′ tagsG sampleRow slotIn litIs z rowsA replyA table placeOf colourOf intensityOf waveOf slotOf slotsOf litAmong rowsOf litIn definedGroup isSingle reservedSpace knownTag slotFor misplaced repeated tagNumber roleFor sampleWith allowedAfter read step walked incomplete endNumber dictionaryNumber dictionarySample overlapsAny badDimmerTag clashingTag dimmerTagNumber mappingWith readDimmer stepDimmer dimmed dimmerNumber dimmerMapping countSum levelsFit tagsOf dataOf meant headerNumber tagsNumber routingNumber routeNumber heldElsewhere holderNumber closedNumber governs pointsOf litPointsOf levelsOf matchNumber drawNumber dimNumber contentNumber addedBy meterNumber numberOf replyOf drawn slicesAfter sumsAfter lookback workedOut judged
+unfolding routingMessage firstNumber zerosChunk sumsList bit messageA messageStart tagsB tagsC tagsD tagsE tagsF tagsF′ tagsG sampleRow slotIn litIs z rowsA replyTo table placeOf colourOf intensityOf waveOf slotOf slotsOf litAmong rowsOf litIn definedGroup isSingle reservedSpace knownTag slotFor misplaced repeated tagNumber roleFor sampleWith allowedAfter read step walked incomplete endNumber dictionaryNumber dictionarySample overlapsAny badDimmerTag clashingTag dimmerTagNumber mappingWith readDimmer stepDimmer dimmed dimmerNumber dimmerMapping countSum levelsFit tagsOf dataOf meant headerNumber tagsNumber routingNumber routeNumber heldElsewhere holderNumber closedNumber governs pointsOf litPointsOf levelsOf matchNumber drawNumber dimNumber contentNumber addedBy meterNumber numberOf replyOf drawn slicesAfter sumsAfter lookback workedOut judged
 bench = refl

@@ -5,7 +5,8 @@ use mathlib.Core.Bool.{Bool, cond, _&&_, _||_}
 use mathlib.Core.List.{List}
 use lib.ListN.{length, drop}
 use lib.Dec.{eqb}
-use Rattle.tags.specs.Rows.{pointsBy, litPointsBy}
+use Rattle.tags.specs.Dictionary.{Sample}
+use Rattle.tags.specs.Rows.{pointsBy, litPointsBy, behindBy}
 use Rattle.tags.specs.Levels.{levelsWritten}
 use Rattle.receiver.specs.Message.{octet, typeOf, dataOf}
 use Rattle.receiver.specs.Modes.{dimmerMode}
@@ -52,13 +53,21 @@ body k = drop 4 (k .octets)
 
 -- ---- counts
 
--- points and lit points of a wave or frame, else 0
+-- points of a wave or frame, else 0
 unfoldable pub pointsOf : Chunk → Configuration → ℕ
 pointsOf k v = cond (isDrawing (k .type) v) (pointsBy (v .sample) (body k)) 0
 
+-- C-11: "a frame's first sample only moves the mirrors (003, 5.2)": how many samples of a wave or frame, from the first, do that
+abbrev pub startSamples : ℕ → ℕ
+startSamples t = cond (eqb t 2) 1 0
+
+-- the lit points of a chunk whose samples are as s says: C-11, "That point now counts among the points but never as lit"
+abbrev pub litPointsFor : Chunk → Sample → ℕ
+litPointsFor k s = litPointsBy s (behindBy s (startSamples (k .type)) (body k))
+
+-- lit points of a wave or frame, else 0
 unfoldable pub litPointsOf : Chunk → Configuration → ℕ
-litPointsOf k v =
-    cond (isDrawing (k .type) v) (litPointsBy (v .sample) (body k)) 0
+litPointsOf k v = cond (isDrawing (k .type) v) (litPointsFor k (v .sample)) 0
 
 -- the levels that dimmer levels write, else 0
 unfoldable pub levelsOf : Chunk → Configuration → ℕ

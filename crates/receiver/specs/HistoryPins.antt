@@ -19,7 +19,7 @@ use Rattle.receiver.specs.Meters.{sums, addedBy}
 use Rattle.receiver.specs.Checks.{headerNumber, tagsNumber, routingNumber, routeNumber, heldElsewhere, holderNumber, closedNumber, governs, matchNumber, drawNumber, dimNumber, contentNumber, meterNumber, numberOf}
 use Rattle.receiver.specs.Effects.{replyOf, sumsAfter}
 use Rattle.receiver.specs.LookBack.{lookback, workedOut, judged, repliesBy}
-use Rattle.receiver.specs.PinMessages.{numberAt, numberFor, numbersOf, metersAfter, fieldsAfter, message, routing, plain, unrouted, drawingTags, bringing, twoLit}
+use Rattle.receiver.specs.PinMessages.{numberAt, numberFor, numbersOf, metersAfter, fieldsAfter, message, routing, plain, unrouted, drawingTags, bringing, twoColoured}
 
 -- ---- messages
 
@@ -87,7 +87,7 @@ orderTable =
     ∷ row (map numberFor (routing 0 1 1 0 4 (0x42 ∷ 0 ∷ 1 ∷ 0x42 ∷ 0 ∷ 1 ∷ 0 ∷ 0 ∷ []) [] ∷ bringing 2 1 0 ∷ routing 0 2 1 0 2 drawingTags (0x10 ∷ []) ∷ routing 0 2 1 0 2 drawingTags (0x10 ∷ replicate 6 0) ∷ routing 0 0x18 1 0 4 [] (0x10 ∷ replicate 600 0) ∷ []))
     (14 ∷ 17 ∷ 18 ∷ 19 ∷ 19 ∷ [])
     -- 20 and 22, 21 and 22, 22 and 23
-    ∷ row (numberAt (sums 0 0 0) 0 0 (bringing 2 2 7) ∷ numberAt (sums 0 0 0) 0 0 (bringing 4 0x18 600) ∷ numberAt (sums 36_000_000_000_000_000 0 0) 0 0 twoLit ∷ []) (20 ∷ 21 ∷ 22 ∷ [])
+    ∷ row (numberAt (sums 0 0 0) 0 0 (bringing 2 2 7) ∷ numberAt (sums 0 0 0) 0 0 (bringing 4 0x18 600) ∷ numberAt (sums 36_000_000_000_000_000 0 0) 0 0 twoColoured ∷ []) (20 ∷ 21 ∷ 22 ∷ [])
     ∷ []
 
 pub order-pins : Agrees orderTable

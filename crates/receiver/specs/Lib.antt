@@ -3,6 +3,7 @@ pub mod Modes
 pub mod Governing
 pub mod Slices
 pub mod Chunk
+pub mod LitPointsLaws
 pub mod Meters
 pub mod Checks
 pub mod Effects

@@ -31,7 +31,7 @@ abbrev pub NotAbove : Sums → Sums → Type 0
 NotAbove s t = (s .litTime ≤ t .litTime) × (s .points ≤ t .points) × (s .litPoints ≤ t .litPoints)
 
 -- "An accepted wave or frame in mode 1 or 2 adds its Duration to the first if one of its points is lit, its points to the second, its
--- lit points to the third."
+-- lit points to the third."; C-11: "a frame lit only there adds no Duration"
 unfoldable pub addedBy : Chunk → Configuration → Sums
 addedBy k v =
     sums (cond (eqb (litPointsOf k v) 0) 0 (duration k)) (pointsOf k v) (litPointsOf k v)

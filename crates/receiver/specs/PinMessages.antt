@@ -88,9 +88,13 @@ tagsFor mode = cond (eqb mode 1) drawingTags (cond (eqb mode 2) drawingTags [])
 abbrev pub bringing : ℕ → ℕ → ℕ → List ℕ
 bringing mode t n = routing 0 t 1 0 mode (tagsFor mode) (replicate n 0)
 
--- a frame of two lit points with Duration 010203
-abbrev pub twoLit : List ℕ
-twoLit = routing 0 2 1 0 2 drawingTags (0 ∷ 1 ∷ 2 ∷ 3 ∷ 0 ∷ 0 ∷ 9 ∷ 0 ∷ 0 ∷ 9 ∷ [])
+-- a frame of two points with a colour that is not 0, with Duration 010203
+abbrev pub twoColoured : List ℕ
+twoColoured = routing 0 2 1 0 2 drawingTags (0 ∷ 1 ∷ 2 ∷ 3 ∷ 0 ∷ 0 ∷ 9 ∷ 0 ∷ 0 ∷ 9 ∷ [])
+
+-- a wave (1) or frame (2), in its mode, of 20 points of which only the first has a colour that is not 0, with Duration 010203
+abbrev pub firstLit : ℕ → List ℕ
+firstLit t = routing 0 t 1 0 t drawingTags ((0 ∷ 1 ∷ 2 ∷ 3 ∷ 0 ∷ 0 ∷ 9 ∷ []) ++ replicate 57 0)
 
 -- a header with this CFL, SCWC 5
 abbrev pub flagged : ℕ → List ℕ

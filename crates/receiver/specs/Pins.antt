@@ -26,7 +26,7 @@ use Rattle.receiver.specs.Record.{areaPlace, recordSize, configurationOf
 use Rattle.receiver.specs.Contract.{startNumber, messageNumber}
 use Rattle.tags.specs.Kept.{sizesFit}
 use Rattle.receiver.specs.Steps.{fresh, freshChannels}
-use Rattle.receiver.specs.PinMessages.{numberAt, numberFor, numbersOf, metersAfter, repliesTo, octets, message, routing, plain, drawingTags, tagsFor, bringing, twoLit, flagged, bit}
+use Rattle.receiver.specs.PinMessages.{numberAt, numberFor, numbersOf, metersAfter, repliesTo, octets, message, routing, plain, drawingTags, tagsFor, bringing, twoColoured, firstLit, flagged, bit}
 
 -- ---- the tables
 
@@ -111,9 +111,9 @@ chunkTable =
     ∷ row (map (λ lent. numberAt (sums 0 0 0) lent 0 (bringing 2 2 10)) (0 ∷ 47 ∷ 48 ∷ [])) (22 ∷ 22 ∷ 0 ∷ [])
     ∷ row (numberAt (sums 0 0 0) 0 0 (bringing 2 2 4) ∷ []) (0 ∷ [])
     ∷ row (map (λ lent. numberAt (sums 0 0 0) 0 lent (bringing 6 0x18 5)) (0 ∷ 1023 ∷ 1024 ∷ [])) (22 ∷ 22 ∷ 0 ∷ [])
-    -- the reply: points, lit points, levels written, the word 11pp
-    ∷ row (repliesTo twoLit ++ repliesTo (bringing 2 2 10) ++ repliesTo (bringing 4 0x18 9))
-    (2 ∷ 2 ∷ 0 ∷ 0 ∷ 2 ∷ 0 ∷ 0 ∷ 0 ∷ 0 ∷ 0 ∷ 5 ∷ 0 ∷ [])
+    -- the reply: points, lit points (C-11: of a frame all but the first), levels written, the word 11pp
+    ∷ row (repliesTo twoColoured ++ repliesTo (bringing 2 2 10) ++ repliesTo (bringing 4 0x18 9))
+    (2 ∷ 1 ∷ 0 ∷ 0 ∷ 2 ∷ 0 ∷ 0 ∷ 0 ∷ 0 ∷ 0 ∷ 5 ∷ 0 ∷ [])
     ∷ row (repliesTo (routing 0 0 1 0 2 (drawingTags ++ (0x11 ∷ 0x55 ∷ 0x00 ∷ 0x00 ∷ [])) [])) (0 ∷ 0 ∷ 0 ∷ 0x1155 ∷ [])
     ∷ []
 
@@ -124,11 +124,13 @@ chunk-pins = refl
 pub meterTable : List (Row ℕ)
 meterTable =
     -- "adds its Duration to the first if one of its points is lit, its points to the second, its lit points to the third"
-    row (metersAfter (sums 0 0 0) (twoLit ∷ [])) (0x010203 ∷ 2 ∷ 2 ∷ [])
+    row (metersAfter (sums 0 0 0) (twoColoured ∷ [])) (0x010203 ∷ 2 ∷ 1 ∷ [])
     ∷ row (metersAfter (sums 5 6 7) (bringing 2 2 10 ∷ bringing 1 1 64 ∷ [])) (5 ∷ 28 ∷ 7 ∷ [])
-    -- a wave as a frame; dimmer levels, and a wave in mode 0, add nothing
+    -- a wave lit in its last point; dimmer levels, and a wave in mode 0, add nothing
     ∷ row (metersAfter (sums 0 0 0) (routing 0 1 1 0 1 drawingTags ((0 ∷ 1 ∷ 2 ∷ 3 ∷ []) ++ replicate 59 0 ++ (9 ∷ [])) ∷ [])) (0x010203 ∷ 20 ∷ 1 ∷ [])
     ∷ row (metersAfter (sums 0 0 0) (routing 0 0x18 1 0 6 [] (replicate 9 9) ∷ routing 1 1 1 0 0 drawingTags (replicate 64 9) ∷ [])) (0 ∷ 0 ∷ 0 ∷ [])
+    -- C-11: lit in the first point alone, a wave adds its Duration and a lit point, and a frame neither
+    ∷ row (each (1 ∷ 2 ∷ []) (λ t. metersAfter (sums 0 0 0) (firstLit t ∷ []))) (0x010203 ∷ 20 ∷ 1 ∷ 0 ∷ 20 ∷ 0 ∷ [])
     -- "Each is limited to 36,000,000,000,000,000 (ten million hours)": start with a reading at the limit, and above it
     ∷ row (metersAfter (sums 36_000_000_000_000_000 36_000_000_000_000_000 36_000_000_000_000_000) [])
     (36_000_000_000_000_000 ∷ 36_000_000_000_000_000 ∷ 36_000_000_000_000_000 ∷ [])
@@ -142,9 +144,14 @@ meterTable =
     ∷ row (map (λ n. messageNumber (fresh (sums 0 n 0)) (plain 0 0 []) (lent 0 0)) (36_000_000_000_000_000 ∷ 36_000_000_000_000_001 ∷ []))
     (16 ∷ 1 ∷ [])
     -- 23. "A meter would pass its limit": each of the three comes to the limit, and then one above
-    ∷ row (map (λ lit. numberAt (sums lit 0 0) 12000 1024 twoLit) (35_999_999_999_933_949 ∷ 35_999_999_999_933_950 ∷ [])) (0 ∷ 23 ∷ [])
-    ∷ row (map (λ points. numberAt (sums 0 points 0) 12000 1024 twoLit) (35_999_999_999_999_998 ∷ 35_999_999_999_999_999 ∷ [])) (0 ∷ 23 ∷ [])
-    ∷ row (map (λ lit. numberAt (sums 0 0 lit) 12000 1024 twoLit) (35_999_999_999_999_998 ∷ 35_999_999_999_999_999 ∷ [])) (0 ∷ 23 ∷ [])
+    ∷ row (map (λ lit. numberAt (sums lit 0 0) 12000 1024 twoColoured) (35_999_999_999_933_949 ∷ 35_999_999_999_933_950 ∷ [])) (0 ∷ 23 ∷ [])
+    ∷ row (map (λ points. numberAt (sums 0 points 0) 12000 1024 twoColoured) (35_999_999_999_999_998 ∷ 35_999_999_999_999_999 ∷ [])) (0 ∷ 23 ∷ [])
+    ∷ row (map (λ lit. numberAt (sums 0 0 lit) 12000 1024 twoColoured) (35_999_999_999_999_999 ∷ 36_000_000_000_000_000 ∷ [])) (0 ∷ 23 ∷ [])
+    -- a frame of no points, whatever its Duration, passes none
+    ∷ row (numberAt (sums 36_000_000_000_000_000 36_000_000_000_000_000 36_000_000_000_000_000) 12000 1024 (routing 0 2 1 0 2 drawingTags (0 ∷ 1 ∷ 2 ∷ 3 ∷ [])) ∷ []) (0 ∷ [])
+    -- and with a meter of lit time or lit points at its limit, a wave lit in its first point alone passes it, such a frame does not
+    ∷ row (each (1 ∷ 2 ∷ []) (λ t. numberAt (sums 36_000_000_000_000_000 0 0) 12000 1024 (firstLit t) ∷ numberAt (sums 0 0 36_000_000_000_000_000) 12000 1024 (firstLit t) ∷ []))
+    (23 ∷ 23 ∷ 0 ∷ 0 ∷ [])
     ∷ []
 
 pub meter-pins : Agrees meterTable

@@ -16,7 +16,7 @@ ghost use lib.ListN.{length};
 ghost use Rattle.tags.specs.Layout.{mappingOf};
 ghost use Rattle.tags.specs.Kept.{areaSize, octetsOf};
 ghost use Rattle.receiver.specs.Slices.{lent};
-ghost use Rattle.receiver.specs.Chunk.{chunk, knownType, isDrawing, isDimming, body};
+ghost use Rattle.receiver.specs.Chunk.{chunk, knownType, isDrawing, isDimming, body, startSamples};
 ghost use Rattle.receiver.specs.Checks.{wrongData, matchNumber, drawNumber, dimNumber, contentNumber};
 ghost use Rattle.receiver.specs.Record.{configurationOf};
 ghost use Rattle.receiver.specs.Steps.{mostOctets};
@@ -51,6 +51,17 @@ pub(crate) fn is_dimming(chunk_type: u8, k: Config) -> bool
 {
     let mode = mode_in(k.state);
     (chunk_type == LEVELS) & dimmer_mode(mode)
+}
+
+// How many samples of a wave or frame, from the first, only move the mirrors and are never lit: a frame has one (C-11).
+pub(crate) fn start_samples(chunk_type: u8) -> usize
+    ensures { λ r. ⌜ r ≡ startSamples «chunk_type» ⌝ }
+{
+    let is_frame = chunk_type == FRAME;
+    if is_frame {
+        return 1;
+    }
+    0
 }
 
 // The samples or levels of a chunk: what stands after its four octets of header.

@@ -4,6 +4,7 @@ use super::Readings;
 use super::chunk::body_of;
 use super::chunk::is_dimming;
 use super::chunk::is_drawing;
+use super::chunk::start_samples;
 use super::header::octet;
 use super::modes::mode_in;
 use super::record::over_limit;
@@ -79,7 +80,8 @@ pub(crate) fn meter_number(
         return 0;
     }
     let layout = layout_in(k.size, k.colours, area);
-    let shown = tags::rows::lit(layout, content) as u64;
+    let start = start_samples(chunk_type);
+    let shown = tags::rows::lit(layout, start, content) as u64;
     let added = counted_time(shown != 0, time);
     let over = over_limit(
         meters.lit_time + added,
@@ -113,13 +115,16 @@ pub(crate) fn draw(
         let layout = layout_in(k.size, k.colours, area);
         let samples = tags::rows::samples(k.size, content.len());
         let points = tags::rows::points(samples);
-        let lit = tags::rows::draw(layout, content, rows);
+        let start = start_samples(chunk_type);
+        let lit = tags::rows::draw(layout, start, content, rows);
         let shines = lit != 0;
         let lit_time = counted_time(shines, duration_of(octets));
+        let point_count = points as u32;
+        let lit_points = lit as u32;
         return Counts {
             lit_time,
-            points: points as u32,
-            lit_points: lit as u32,
+            points: point_count,
+            lit_points,
             levels: 0,
         };
     }
@@ -127,11 +132,12 @@ pub(crate) fn draw(
     if dims {
         let dimmer = dimmer_in(k.size, area);
         let written = tags::levels::write(dimmer, mode_in(k.state), content, levels);
+        let level_count = written as u32;
         return Counts {
             lit_time: 0,
             points: 0,
             lit_points: 0,
-            levels: written as u32,
+            levels: level_count,
         };
     }
     no_counts()

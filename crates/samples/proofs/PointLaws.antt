@@ -3,20 +3,22 @@
 use Prim.Native.Nat.{ℕ, zero, suc, _+_, _-_, _*_, _/_, _<_, _≤_, min}
 use native.Mathlib.Nat.{zero-mul, suc-mul, mul-le-mul-right, le-trans, div-mul-le-self}
 use native.Mathlib.Omega.{arith}
-use native.Mathlib.Decide.{decLt}
+use native.Mathlib.Decide.{decLt, decLe}
 use native.Mathlib.Numerals.{add-one}
 use mathlib.Core.Path.{_≡_, refl, sym, _∙_}
-use mathlib.Core.Bool.{Bool, true, false, cond}
+use mathlib.Core.Bool.{Bool, true, false, cond, _&&_}
 use mathlib.Core.List.{List, _++_, append-assoc}
 use lib.ListN.{length, take, drop, length-append, length-take}
 use lib.Seq.{take-at, drop-at, drop-drop, take-all}
 use lib.IntN.{ℤ}
+use lib.Dec.{leb}
 use borrow.Author.Tests.{le-leb, lt-leb}
 use borrow.Rule.Slice.PartMut.{putMid, mid-len}
 use Rattle.samples.specs.declared.plan.Plan.{Plan}
 use Rattle.samples.specs.Limits.{octetLimit, rowSize}
 use Rattle.samples.specs.Row.{rowOf, litOf}
-use Rattle.samples.specs.Points.{samplesIn, sampleAt, rowsOf, litIn, roomFor}
+use Rattle.samples.specs.Points.{samplesIn, sampleAt, rowsOf, behind, litIn, roomFor}
+use Rattle.samples.specs.PointsLaws.{sampleAt-behind, behind-none}
 use Rattle.samples.specs.Plan.{Planned, Ready}
 use Rattle.samples.proofs.RowLaws.{slotsOf-length}
 
@@ -69,25 +71,45 @@ module _ (roles waves octets : List ℕ) where
       )
       (sym (append-assoc (rowsOf roles waves octets i) (rowOf roles waves (sampleAt roles octets i)) (drop (i * rowSize + rowSize) rows₀)))
 
-pub lit-more : (roles octets : List ℕ) (i b lit : ℕ) (f : Bool) → f ≡ litOf roles (sampleAt roles octets i) → b ≡ cond f 1 0 → lit ≡ litIn roles octets i → lit + b ≡ litIn roles octets (i + 1)
+-- one sample more behind the first h, or one of them
+pub lit-more : (roles octets : List ℕ) (h i b lit : ℕ) (f : Bool) → f ≡ litOf roles (sampleAt roles octets i) → b ≡ cond f 1 0
+    → lit ≡ litIn roles (behind roles h octets) (i - h) → cond (leb h i) (lit + b) 0 ≡ litIn roles (behind roles h octets) (i + 1 - h)
 unfolding litIn
-lit-more roles octets i b lit f ef eb q = rw (add-one i, eb, ef, q) refl
+lit-more roles octets h i b lit f ef eb q = go (decLe h i)
+  where
+    go : Dec (h ≤ i) → cond (leb h i) (lit + b) 0 ≡ litIn roles (behind roles h octets) (i + 1 - h)
+    go (yes le) =
+        let next : i + 1 - h ≡ suc (i - h) = omega arith in
+        let place : h + (i - h) ≡ i = omega arith in
+        let at : sampleAt roles (behind roles h octets) (i - h) ≡ sampleAt roles octets i = sampleAt-behind roles octets h (i - h) ∙ rw place refl in
+        rw (le-leb h i le, next, at, eb, ef, q) refl
+    go (no lt) =
+        let still : i + 1 - h ≡ 0 = omega arith in
+        rw (lt-leb h i (omega arith), still) refl
+
+-- a count that may go back to 0 is no more than it was
+pub counted-le : (passed : Bool) (r lit : ℕ) → r ≡ cond passed lit 0 → r ≤ lit
+counted-le true r lit e = omega arith
+counted-le false r lit e = omega arith
 
 pub bit-le : (f : Bool) (b : ℕ) → b ≡ cond f 1 0 → b ≤ 1
 bit-le true b e = omega arith
 bit-le false b e = omega arith
 
--- one sample by itself
-module _ (roles octets part : List ℕ) (i : ℕ) (e : part ≡ sampleAt roles octets i) where
-  alone : litIn roles part 1 ≡ cond (litOf roles (sampleAt roles octets i)) 1 0
+-- one sample by itself, behind the first h
+module _ (roles octets part : List ℕ) (h i : ℕ) (le : h ≤ i) (e : part ≡ sampleAt roles octets i) where
+  alone : litIn roles (behind roles 0 part) 1 ≡ cond (litOf roles (sampleAt roles octets i)) 1 0
   unfolding litIn
   alone =
-      rw (zero-mul (length roles), take-all (length roles) part (rw e (simp length-take (omega arith))), e) (omega arith)
+      rw (behind-none roles part, zero-mul (length roles), take-all (length roles) part (rw e (simp length-take (omega arith))), e) (omega arith)
 
-  pub lit-one : (r lit : ℕ) → r ≡ litIn roles part 1 → lit ≡ litIn roles octets i → (r ≤ 1) × (lit + r ≡ litIn roles octets (i + 1))
+  pub lit-one : (r lit : ℕ) → r ≡ litIn roles (behind roles 0 part) 1 → lit ≡ litIn roles (behind roles h octets) (i - h)
+      → (r ≤ 1) × (lit + r ≡ litIn roles (behind roles h octets) (i + 1 - h))
   lit-one r lit er q =
-      let f = litOf roles (sampleAt roles octets i) in
-      (bit-le f r (er ∙ alone), lit-more roles octets i r lit f refl (er ∙ alone) q)
+      let f = litOf roles (sampleAt roles octets i) in (
+        bit-le f r (er ∙ alone),
+        sym (rw (le-leb h i le) refl) ∙ lit-more roles octets h i r lit f refl (er ∙ alone) q,
+      )
 
 -- ---- the width
 

@@ -37,6 +37,10 @@ unfoldable pub litIn : List ℕ → List ℕ → ℕ → ℕ
 litIn roles octets zero = 0
 litIn roles octets (suc n) = litIn roles octets n + cond (litOf roles (sampleAt roles octets n)) 1 0
 
+-- the octets behind the first n samples
+abbrev pub behind : List ℕ → ℕ → List ℕ → List ℕ
+behind roles n octets = drop (n * length roles) octets
+
 -- how many of the points are lit
 abbrev pub litPointsIn : List ℕ → List ℕ → ℕ
 litPointsIn roles octets = litIn roles octets (samplesIn roles octets)

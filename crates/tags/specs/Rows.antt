@@ -9,7 +9,7 @@ unfoldable pub use Rattle.samples.specs.Roles.{placeOf}
 unfoldable pub use Rattle.samples.specs.Row.{colourOf, intensityOf, waveOf, slotOf, slotsOf, litAmong}
 pub use Rattle.samples.specs.Row.{litOf}
 unfoldable pub use Rattle.samples.specs.Points.{rowsOf, litIn}
-pub use Rattle.samples.specs.Points.{samplesOf, samplesIn, pointsFor, pointsIn, litPointsIn, sampleAt, drawnOver, roomFor}
+pub use Rattle.samples.specs.Points.{samplesOf, samplesIn, pointsFor, pointsIn, behind, litPointsIn, sampleAt, drawnOver, roomFor}
 
 -- ---- by what a dictionary says of a sample, of which the layer above then names no part
 
@@ -23,6 +23,10 @@ pointsBy s octets = pointsIn (s .roles) octets
 
 abbrev pub litPointsBy : Sample → List ℕ → ℕ
 litPointsBy s octets = litPointsIn (s .roles) octets
+
+-- the octets behind the first n samples
+abbrev pub behindBy : Sample → ℕ → List ℕ → List ℕ
+behindBy s n octets = behind (s .roles) n octets
 
 -- the lent rows have room for them, and what the rows are with them drawn
 abbrev pub roomBy : Sample → List ℕ → List ℤ → Bool

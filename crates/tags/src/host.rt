@@ -54,7 +54,7 @@ pub extern "C" fn mewkoast_draw(layout: Layout, octets: &[u8], rows: &mut [i32])
     ensures { λ r. ⌜ now (rows .exit) ≡ cond (roomFor (sampleOf layout .roles) (now (octets .entry)) (now (rows .entry))) (drawnOver (sampleOf layout .roles) (sampleOf layout .waves) (now (octets .entry)) (now (rows .entry))) (now (rows .entry)) ⌝ }
     ensures { λ r. ⌜ r ≡ cond (roomFor (sampleOf layout .roles) (now (octets .entry)) (now (rows .entry))) (litPointsIn (sampleOf layout .roles) (now (octets .entry))) 0 ⌝ }
 {
-    rows::draw(layout, octets, rows)
+    rows::draw(layout, 0, octets, rows)
 }
 
 // The check of dimmer tags with the mapping that it leaves. The arrays hold 0 after `count`, and all of the mapping is 0 with a refusal.

@@ -6,7 +6,7 @@ ghost use mathlib.Core.Path.{_≡_};
 ghost use mathlib.Core.Bool.{cond};
 ghost use Prim.Native.Nat.{_%_};
 ghost use lib.Dec.{eqb};
-ghost use Rattle.samples.specs.Points.{samplesOf, pointsFor, litPointsIn, drawnOver, roomFor};
+ghost use Rattle.samples.specs.Points.{samplesOf, pointsFor, behind, litPointsIn, drawnOver, roomFor};
 ghost use Rattle.tags.specs.Layout.{sampleOf};
 ghost use Rattle.tags.specs.Kept.{octetsOf};
 
@@ -50,18 +50,19 @@ pub fn whole(size: u8, octets: usize) -> bool
     octets % width == 0
 }
 
-// How many of the points are lit.
-pub fn lit(layout: Layout, octets: &[u8]) -> usize
-    ensures { λ r. ⌜ r ≡ litPointsIn (sampleOf layout .roles) (now (octets .entry)) ⌝ }
+// How many of the points behind the first `start` samples are lit.
+pub fn lit(layout: Layout, start: usize, octets: &[u8]) -> usize
+    ensures { λ r. ⌜ r ≡ litPointsIn (sampleOf layout .roles) (behind (sampleOf layout .roles) start (now (octets .entry))) ⌝ }
 {
     let roles = layout.roles;
-    samples::lit_points(roles, layout.width as usize, octets)
+    samples::lit_points(roles, layout.width as usize, start, octets)
 }
 
-// The samples written as rows where the lent rows have room, and how many of them are lit; else nothing, and 0.
-pub fn draw(layout: Layout, octets: &[u8], rows: &mut [i32]) -> usize
+// The samples written as rows where the lent rows have room, and how many of the points behind the first `start` samples are lit; else
+// nothing, and 0.
+pub fn draw(layout: Layout, start: usize, octets: &[u8], rows: &mut [i32]) -> usize
     ensures { λ r. ⌜ now (rows .exit) ≡ cond (roomFor (sampleOf layout .roles) (now (octets .entry)) (now (rows .entry))) (drawnOver (sampleOf layout .roles) (sampleOf layout .waves) (now (octets .entry)) (now (rows .entry))) (now (rows .entry)) ⌝ }
-    ensures { λ r. ⌜ r ≡ cond (roomFor (sampleOf layout .roles) (now (octets .entry)) (now (rows .entry))) (litPointsIn (sampleOf layout .roles) (now (octets .entry))) 0 ⌝ }
+    ensures { λ r. ⌜ r ≡ cond (roomFor (sampleOf layout .roles) (now (octets .entry)) (now (rows .entry))) (litPointsIn (sampleOf layout .roles) (behind (sampleOf layout .roles) start (now (octets .entry)))) 0 ⌝ }
 {
     let roles = layout.roles;
     let waves = layout.waves;
@@ -70,6 +71,7 @@ pub fn draw(layout: Layout, octets: &[u8], rows: &mut [i32]) -> usize
         layout.width as usize,
         waves,
         layout.colours as usize,
+        start,
         octets,
         rows,
     )

@@ -4,6 +4,7 @@ use mathlib.Core.Path.{_≡_, refl}
 use lib.ListN.{length, take}
 use borrow.Author.Needs.{needs}
 use Rattle.samples.specs.Limits.{octetLimit}
+use Rattle.samples.specs.PointsLaws.{samplesIn-behind}
 use Rattle.samples.proofs.PointLaws.{clamped-length, clamped-take, samples-are, samples-within, room-none, room-some}
 use Rattle.samples.proofs.draw.Statement.{statement}
 use Rattle.samples.proofs.draw.Tie as tie
@@ -54,6 +55,7 @@ returns-2 c =
     let n = r .before .samples-in .ensures in
     rw (
       room-some (take (a .width) (a .t1)) (a .octets .now) (a .rows .now) _ _ (sized w) n (r .if1 .left),
+      samplesIn-behind (take (a .width) (a .t1)) (a .octets .now) (a .start),
       ← samples-are (take (a .width) (a .t1)) (a .octets .now) (a .rows .now) _ _ (sized w) n,
       ← clamped-take (a .t1) (a .width) _ (long w) (w .least .ensures),
     )

@@ -5,6 +5,7 @@ use mathlib.Core.List.{[]}
 use lib.ListN.{length, take}
 use borrow.Author.Needs.{needs}
 use Rattle.samples.specs.Limits.{octetLimit}
+use Rattle.samples.specs.PointsLaws.{samplesIn-behind}
 use Rattle.samples.proofs.PointLaws.{clamped-length, clamped-take, samples-are, samples-within}
 use Rattle.samples.proofs.lit_points.Statement.{statement}
 use Rattle.samples.proofs.lit_points.Tie as tie
@@ -23,7 +24,11 @@ returns c =
     let l : length (a .t1) ≡ octetLimit = search needs in
     let s = c .before .before .before .least .ensures in
     let e = clamped-length (a .t1) (a .width) _ l s in
-    rw (← samples-are (take (a .width) (a .t1)) (a .octets .now) [] _ _ e (c .before .before .samples-in .ensures), ← clamped-take (a .t1) (a .width) _ l s)
+    rw (
+      samplesIn-behind (take (a .width) (a .t1)) (a .octets .now) (a .start),
+      ← samples-are (take (a .width) (a .t1)) (a .octets .now) [] _ _ e (c .before .before .samples-in .ensures),
+      ← clamped-take (a .t1) (a .width) _ l s,
+    )
     (c .count-lit .ensures)
 
 pub lit-points-spec : {M : Type 1} → statement M

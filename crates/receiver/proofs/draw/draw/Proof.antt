@@ -7,14 +7,14 @@ use Prim.Native.Nat.{ℕ, _≤_}
 use native.Mathlib.Omega.{arith}
 use lib.ListN.{length}
 use lib.Dec.{eqb}
-use Rattle.tags.specs.Rows.{pointsBy, litPointsBy, roomBy}
+use Rattle.tags.specs.Rows.{pointsBy, roomBy}
 use Rattle.tags.specs.Levels.{levelsCounted}
 use Rattle.tags.specs.Dictionary.{Sample}
 use Rattle.tags.specs.Dimmer.{Mapping}
 use Rattle.tags.specs.Kept.{sampleIn, mappingIn}
 use Rattle.tags.specs.KeptLaws.{kept-octets}
 use Rattle.receiver.specs.Slices.{slices}
-use Rattle.receiver.specs.Chunk.{Chunk, chunk, body}
+use Rattle.receiver.specs.Chunk.{Chunk, chunk, body, litPointsFor}
 use Rattle.receiver.specs.Steps.{mostOctets}
 use Rattle.receiver.proofs.ChunkLaws.{lit-duration, points-few, lit-few, levels-few, drawn-rows, drawn-levels, drawn-none}
 use Rattle.receiver.proofs.draw.draw.Statement.{statement}
@@ -52,7 +52,7 @@ abbrev drawing-at : tie.After-points → tie.After-is-drawing
 drawing-at c = layout-at c .before .before
 
 abbrev points-at : tie.After-draw → tie.After-points
-points-at c = c .before .before
+points-at c = c .before .before .before
 
 abbrev draw-at : tie.After-counted-time → tie.After-draw
 draw-at c = c .before .before .before
@@ -70,22 +70,22 @@ counted c =
 -- the lit points that the drawing counted
 shown : (c : tie.After-draw)
     → let s = start-of (body-at (drawing-at (points-at c))) in
-    c .draw .result ≡ cond (roomBy (sample s) (body (this s)) (s .args .rows .now)) (litPointsBy (sample s) (body (this s))) 0
+    c .draw .result ≡ cond (roomBy (sample s) (body (this s)) (s .args .rows .now)) (litPointsFor (this s) (sample s)) 0
 shown c =
     let p = points-at c in
     let b = body-at (drawing-at p) in
     let roles = ap (λ (a : Sample). a .roles) (layout-at p .layout-in .ensures) in
-    rw (← roles, ← b .body-of .ensures (start-of b .args .chunk-type)) (c .draw .ensures .1)
+    rw (← roles, ← b .body-of .ensures (start-of b .args .chunk-type), ← c .before .before .start-samples .ensures) (c .draw .ensures .1)
 
-cast-t23 : tie.Need-cast-t23
-cast-t23 c =
+cast-point-count : tie.Need-cast-point-count
+cast-point-count c =
     let p = points-at (draw-at c) in
     let s = start-of (body-at (drawing-at p)) in
     let few : p .points .result ≤ mostOctets = rw (counted p) (points-few (this s) (s .pre .1 .0) (sample s)) in
     omega arith
 
-cast-t24 : tie.Need-cast-t24
-cast-t24 c =
+cast-lit-points : tie.Need-cast-lit-points
+cast-lit-points c =
     let w = draw-at c in
     let s = start-of (body-at (drawing-at (points-at w))) in
     let few : w .draw .result ≤ mostOctets =
@@ -128,8 +128,8 @@ written c =
     let b = body-at (undrawn-at (dimming-at (mode-at c))) in
     rw (← mode-at c .before .dimmer-in .ensures, ← b .body-of .ensures (start-of b .args .chunk-type)) (c .write .ensures .1)
 
-cast-t28 : tie.Need-cast-t28
-cast-t28 c =
+cast-level-count : tie.Need-cast-level-count
+cast-level-count c =
     let w = c .before .before in
     let s = start-of (body-at (undrawn-at (dimming-at (mode-at w)))) in
     let few : w .write .result ≤ mostOctets =
@@ -173,15 +173,16 @@ draw-spec =
     (λ c κs. search needs)
     (λ c κs. search needs)
     (λ c κs. search needs)
-    cast-t23
-    cast-t24
+    (λ c κs. search needs)
+    cast-point-count
+    cast-lit-points
     (λ c. search needs)
     returns
     (λ c κs. search needs)
     (λ c κs. search needs)
     (λ c κs. search needs)
     (λ c κs. search needs)
-    cast-t28
+    cast-level-count
     (λ c. search needs)
     returns-2
     (λ c κs. search needs)

@@ -8,21 +8,20 @@ use mathlib.Core.List.{List}
 use Prim.Native.Nat.{ℕ, _≤_}
 use native.Mathlib.Omega.{arith}
 use lib.Dec.{eqb}
-use Rattle.tags.specs.RowsLaws.{litPoints-le-points}
-use Rattle.tags.specs.Rows.{pointsBy, litPointsBy}
+use Rattle.tags.specs.Rows.{pointsBy}
 use Rattle.tags.specs.Choice.{refuse}
 use Rattle.tags.specs.Dictionary.{Sample}
 use Rattle.tags.specs.Kept.{sampleIn}
 use Rattle.tags.specs.KeptLaws.{kept-octets}
 use Rattle.receiver.specs.Governing.{Configuration}
-use Rattle.receiver.specs.Chunk.{Chunk, chunk, isDrawing, body}
+use Rattle.receiver.specs.Chunk.{Chunk, chunk, isDrawing, body, litPointsFor}
 use Rattle.receiver.specs.Meters.{Sums, limit}
 use Rattle.receiver.specs.Checks.{meterNumber}
 use Rattle.receiver.specs.Record.{configurationOf}
 use Rattle.receiver.specs.Contract.{sumsIn}
 use Rattle.receiver.specs.Steps.{mostOctets}
 use Rattle.receiver.proofs.CheckLaws.{within-each}
-use Rattle.receiver.proofs.ChunkLaws.{lit-duration, points-few}
+use Rattle.receiver.proofs.ChunkLaws.{lit-duration, lit-le-points, points-few}
 use Rattle.receiver.proofs.MeterLaws.{meter-idle, meter-drawing, meter-far}
 use Rattle.receiver.proofs.draw.meter_number.Statement.{statement}
 use Rattle.receiver.proofs.draw.meter_number.Tie as tie
@@ -65,7 +64,7 @@ abbrev time-at : tie.After-over-limit → tie.After-duration-of
 time-at c = c .before .before .before .before
 
 abbrev far-at : tie.After-counted-time → tie.After-over-limit
-far-at c = c .before .before .before .before
+far-at c = c .before .before .before .before .before
 
 abbrev near-at : tie.After-over-limit2 → tie.After-counted-time
 near-at c = c .before .before .before .before
@@ -84,12 +83,12 @@ few : (c : tie.After-points) → c .points .result ≤ mostOctets
 few c = let s = start-of c in rw (counted c) (points-few (this s) (s .pre .1 .0) (sample s))
 
 shown-are : (c : tie.After-lit)
-    → let s = start-of (points-at (time-at (c .before .before .before))) in
-    c .lit .result ≡ litPointsBy (sample s) (body (this s))
+    → let s = start-of (points-at (time-at (c .before .before .before .before))) in
+    c .lit .result ≡ litPointsFor (this s) (sample s)
 shown-are c =
-    let p = points-at (time-at (c .before .before .before)) in
-    let roles = ap (λ (a : Sample). a .roles) (c .before .layout-in .ensures) in
-    rw (← roles, ← p .before .before .body-of .ensures (start-of p .args .chunk-type)) (c .lit .ensures)
+    let p = points-at (time-at (c .before .before .before .before)) in
+    let roles = ap (λ (a : Sample). a .roles) (c .before .before .layout-in .ensures) in
+    rw (← roles, ← p .before .before .body-of .ensures (start-of p .args .chunk-type), ← c .before .start-samples .ensures) (c .lit .ensures)
 
 -- ---- the needs
 
@@ -135,14 +134,14 @@ add-counted c =
 add-points-again : tie.Need-add-over-limit-5
 add-points-again c = let p = points-at (time-at (far-at (c .before .before))) in omega (arith, within (start-of p) .1, few p)
 
-shown-le : (sample : Sample) (octets : List ℕ) (l p : ℕ) → l ≡ litPointsBy sample octets → p ≡ pointsBy sample octets → l ≤ p
-shown-le sample octets l p e f = rw (e, f) (litPoints-le-points sample octets)
+shown-le : (k : Chunk) (sample : Sample) (l p : ℕ) → l ≡ litPointsFor k sample → p ≡ pointsBy sample (body k) → l ≤ p
+shown-le k sample l p e f = rw (e, f) (lit-le-points k sample)
 
 add-shown : tie.Need-add-over-limit-6
 add-shown c =
     let n = c .before .before .before in
     let p = points-at (time-at (far-at n)) in
-    let less : n .before .lit .result ≤ p .points .result = shown-le (sample (start-of p)) (body (this (start-of p))) _ _ (shown-are (n .before)) (counted p) in
+    let less : n .before .lit .result ≤ p .points .result = shown-le (this (start-of p)) (sample (start-of p)) _ _ (shown-are (n .before)) (counted p) in
     omega (arith, within (start-of p) .2, few p)
 
 -- near a limit the number goes by what the chunk really adds
@@ -180,6 +179,7 @@ meter-number-spec =
     add-lit
     (λ c κs. search needs)
     returns-2
+    (λ c κs. search needs)
     (λ c κs. search needs)
     (λ c κs. search needs)
     (λ c κs. search needs)

@@ -1,0 +1,75 @@
+//! In what the two builds differ on one start or message.
+
+use crate::builds::Given;
+
+/// Differences that are counted together.
+#[derive(Clone, PartialEq, Eq, PartialOrd, Ord)]
+pub struct Kind {
+    /// The numbers of the replies: of the earlier build, of the present one.
+    pub numbers: [u32; 2],
+    /// "start", or the chunk type of the message and whether it routes.
+    pub offered: String,
+    /// Where both accepted: by how much the lit points grew.
+    pub lit: Option<i64>,
+    /// The names of all that differs.
+    pub parts: Vec<&'static str>,
+}
+
+impl Kind {
+    /// None where nothing differs. Without octets it is a start.
+    pub fn of(before: &Given, now: &Given, octets: Option<&[u8]>) -> Option<Kind> {
+        let parts = parts(before, now);
+        if parts.is_empty() {
+            return None;
+        }
+        let numbers = [before.reply.number, now.reply.number];
+        let [earlier, present] = [before, now].map(|given| i64::from(given.reply.lit_points));
+        Some(Kind {
+            numbers,
+            offered: octets.map_or("start".to_string(), offered),
+            lit: (numbers == [0, 0]).then_some(present - earlier),
+            parts,
+        })
+    }
+}
+
+/// The names of what differs: fields of the reply under their names in
+/// include/mewkoast.h, the slices, the three meters, the octets of the
+/// channels. The margins of slices and channels count as a part of them.
+fn parts(before: &Given, now: &Given) -> Vec<&'static str> {
+    let (old, new) = (&before.reply, &now.reply);
+    let [meters, after] = [before, now].map(|given| given.record.meters.read());
+    let compared = [
+        ("number", old.number != new.number),
+        ("channel", old.channel != new.channel),
+        ("chunk_type", old.kind != new.kind),
+        ("timestamp", old.timestamp != new.timestamp),
+        ("space", old.space != new.space),
+        ("points", old.points != new.points),
+        ("lit_points", old.lit_points != new.lit_points),
+        ("levels", old.levels != new.levels),
+        ("rows", before.slices.rows != now.slices.rows),
+        ("levels slice", before.slices.levels != now.slices.levels),
+        ("meter lit_time", meters[0] != after[0]),
+        ("meter points", meters[1] != after[1]),
+        ("meter lit_points", meters[2] != after[2]),
+        (
+            "channel octets",
+            before.record.channels != now.record.channels,
+        ),
+    ];
+    let different = compared.into_iter().filter(|(_, differs)| *differs);
+    different.map(|(name, _)| name).collect()
+}
+
+/// Document 01, "One message": octet 3 is the type, CCLF is in octet 2, and
+/// Routing is the last bit of octet 9. The octets are read as they stand, since
+/// a message that is refused has them too.
+fn offered(octets: &[u8]) -> String {
+    let bit = |place: usize, mask: u8| octets.get(place).is_some_and(|octet| octet & mask != 0);
+    match octets.get(3) {
+        Some(kind) if bit(2, 0x40) && bit(9, 0x01) => format!("type {kind:02X}, routes"),
+        Some(kind) => format!("type {kind:02X}"),
+        None => "no type".to_string(),
+    }
+}
