@@ -22,6 +22,9 @@
 /* What is lent with each message: rows of 500 points, and every level. */
 enum { NUMBERS = 500 * MEWKOAST_ROW, LEVELS = MEWKOAST_PLACES };
 
+/* And room for a frame that comes in fragments. */
+enum { ASSEMBLY = 65536 };
+
 /*
  * Total Size has 16 bits, so no message is longer. Those above 65,280 octets
  * are offered as well: refusing them is the receiver's part.
@@ -31,6 +34,12 @@ enum { LONGEST = 65535, SHORTEST = 8 };
 static uint8_t message[LONGEST];
 static int32_t rows[NUMBERS];
 static uint8_t levels[LEVELS];
+
+/*
+ * A frame's octets stand here from its first fragment to its last, so this is
+ * lent with every message, unaltered and at one length.
+ */
+static uint8_t assembly[ASSEMBLY];
 
 /*
  * The receiver, which each call changes in place. mewkoast_message takes it by
@@ -87,7 +96,8 @@ static void print_reply(mewkoast_reply reply)
 /*
  * Offers every message. A card would use the rows or levels of an accepted
  * message here: reply.points rows from the start of `rows`, or the levels in
- * their places. A refused message has left both as they were.
+ * their places. A refused message has left both as they were, and so has a
+ * fragment that is not the last of its frame.
  */
 static void run(void)
 {
@@ -99,7 +109,7 @@ static void run(void)
     mewkoast_begin(&receiver, 0, 0, 0);
     while ((length = read_message(&cut)) > 0)
         print_reply(mewkoast_offer(&receiver, message, length, rows, NUMBERS,
-                                   levels, LEVELS));
+                                   levels, LEVELS, assembly, ASSEMBLY));
     if (cut > 0)
         printf("cut %" PRIu64 "\n", cut);
     meters = mewkoast_readings_of(&receiver);

@@ -2,9 +2,9 @@
  * The channel receiver and its tag layer, for C hosts.
  *
  * Sections: 1 refusal numbers of the tag layer, 2 the dictionary check,
- * 3 samples to rows, 4 dimmer levels, 5 the receiver with all 23 numbers.
- * Checks and limits are those of document 01; messages and tags are those of
- * IDN-Stream, Revision 001.
+ * 3 samples to rows, 4 dimmer levels, 5 the receiver with all 26 numbers.
+ * Checks and limits are those of document 01 and of the requests C-11 and C-12;
+ * messages and tags are those of IDN-Stream, Revision 001.
  *
  * For x86-64 Linux. Link target/staticlib/libreceiver.a (`rt staticlib
  * receiver`) for section 5 and libtags.a (`rt staticlib tags`) for sections 2
@@ -25,7 +25,7 @@
 #include <stddef.h>
 #include <stdint.h>
 
-#define MEWKOAST_VERSION "0.6.0"
+#define MEWKOAST_VERSION "0.7.0"
 
 #ifdef __cplusplus
 extern "C" {
@@ -205,10 +205,15 @@ size_t mewkoast_levels(mewkoast_dimmer_mapping dimmer, uint8_t mode,
 /* ---- 5. The receiver ---------------------------------------------------- */
 
 /*
- * The record of a receiver: 64 channels and three meters, 6,552 octets. The
- * host keeps it between calls and copies it as it likes; nothing is kept
- * elsewhere. Its inner fields may change with a version: only what the calls
- * below give of it is promised.
+ * The record of a receiver: three meters, what is known of the frame that is
+ * being gathered, and 64 channels, 6,568 octets. The host keeps it between
+ * calls and copies it as it likes; nothing is kept elsewhere but the octets of
+ * that frame, which stand in the assembly slice. Its inner fields may change
+ * with a version: only what the calls below give of it is promised.
+ *
+ * `gathered` has four numbers: 0 while no frame is gathered, or the frame's
+ * channel plus 1; its octets so far; the timestamp of its first fragment; the
+ * number of the next sequel, modulo 2 to the power 32.
  *
  * Two kinds of calls do the same. Those in place change the record where the
  * host keeps it: mewkoast_begin, mewkoast_offer, mewkoast_readings_of. They
@@ -218,6 +223,7 @@ size_t mewkoast_levels(mewkoast_dimmer_mapping dimmer, uint8_t mode,
  */
 typedef struct {
     uint64_t meters[3];
+    uint32_t gathered[4];
     uint8_t channels[6528];
 } mewkoast_receiver;
 
@@ -226,11 +232,11 @@ typedef struct {
  *
  *    1  the record given breaks the consistency rule (a meter above its
  *       limit; in a channel, open or closed, an unknown state, a size above
- *       32 or above 8 colours), or its lent arrays have other lengths; it is
- *       left, or handed back, as it came
+ *       32 or above 8 colours; no value in `gathered` does), or its lent
+ *       arrays have other lengths; it is left, or handed back, as it came
  *    2  the length is below 8, above 65,280, or not Total Size
  *    3  the top bit of octet 2 is 0
- *    4  the type is not 0x00, 0x01, 0x02 or 0x18
+ *    4  the type is not 0x00, 0x01, 0x02, 0x03, 0x18 or 0xC0
  *    5  the configuration header, or with Routing its words, pass the end
  *    6  with Routing, the mode is not 0, 1, 2, 4 or 6
  *    7  the service does not go with the mode
@@ -245,20 +251,30 @@ typedef struct {
  *   16  without Routing, the channel is closed
  *   17  the type does not go with the mode
  *   18  a Void chunk has data, or another has under 4 octets
- *   19  SCM differs from SDM; the channel is closed
+ *   19  SCM differs from SDM; the channel is closed, and a frame that is
+ *       gathered on it is dropped
  *   20  samples are not whole, a wave has under 20, or a frame has exactly 1
  *   21  the levels do not go with the dimmer tags
  *   22  rows hold under points * 24 numbers, or levels under 1,024 octets
  *   23  a meter would pass its limit of 36,000,000,000,000,000
+ *   24  a sequel where no frame is gathered on its channel
+ *   25  a sequel with a wrong timestamp; the frame is dropped
+ *   26  the assembly slice is too short for the octets of the frame so far, or
+ *       they are over 1,000,000,000; any frame that is gathered is dropped
+ *
+ * They are tried in this order, but 24 and 25 after 16, and 26 after 19. Checks
+ * 5 and 17 to 19 pass a sequel by; 20 to 23 are asked of the whole frame, at
+ * its last fragment. In mode 0 fragments are accepted and ignored.
  *
  * An accepted message has number 0, its channel, chunk type and timestamp, the
  * space modifier in force (0 if none), its points, lit points and the levels
- * written.
+ * written. Of a frame in fragments the accepted last one has the points, lit
+ * points, rows and what is added to the meters; those before it have none.
  *
  * A point is lit when a colour slot of its row is not 0. But the first point of
- * a frame (chunk type 0x02) only moves the mirrors: it counts among the points
- * and never as lit, whatever its row holds, and a frame lit only there adds no
- * time to the meters.
+ * a frame, in one message (chunk type 0x02) or in fragments, only moves the
+ * mirrors: it counts among the points and never as lit, whatever its row holds,
+ * and a frame lit only there adds no time to the meters.
  *
  * A range of levels that is not within 1 to 512, which no dimmer tags give but
  * a record that the host changed may hold, takes its octets from the message
@@ -294,62 +310,98 @@ typedef struct {
 } mewkoast_span;
 
 /*
- * In place, on the two arrays of a record. A host uses the three functions
+ * Frames in fragments. A frame that is too long for one message comes as a
+ * first fragment (chunk type 0x03), which has the chunk header and may have
+ * configuration, and sequels (0xC0), which have bare octets from octet 8, the
+ * timestamp of the first plus their number from 1 (modulo 2 to the power 32),
+ * and CCLF set in the last alone. One frame at a time is gathered, header
+ * first, at the start of the assembly slice that the host lends. A first
+ * fragment accepted in mode 2 on any channel, and on the frame's own channel an
+ * accepted routing or close, drops it, as do 19, 25 and 26 above. With its last
+ * fragment it is drawn or refused by 20 to 23; then it is gathered no longer.
+ *
+ * What the host must know of the assembly slice:
+ *   - While a frame is gathered it lends the same octets, unaltered, and at the
+ *     same length, or the frame that is drawn is another than the one sent, and
+ *     the meters count that one. The slice may stand elsewhere if its octets
+ *     are copied. With altered octets or another length every call still gets
+ *     its reply: check 26 goes by the length lent with the message, and the
+ *     last fragment draws the octets that are found.
+ *   - Nothing is written to it but the octets of fragments, each where those
+ *     before it end: of accepted ones, and of a last one whose frame is refused
+ *     by 20 to 23. They stay there; dropping a frame writes nothing.
+ *   - It must hold the octets of a whole frame: 4 and the samples. A host that
+ *     expects no fragments lends length 0; then every first fragment in mode 2
+ *     gets 26.
+ */
+
+/*
+ * In place, on the three arrays of a record. A host uses the three functions
  * after these, which pass the arrays of its record on.
  *
  * The host owes valid pointers and lengths and nothing else: `channels` to
- * `channels_length` octets and `meters` to `meters_length` numbers, aligned as
- * uint64_t is, to be read and written; the rest as at mewkoast_offer. No two
- * of them share memory. Arrays of other lengths than 6,528 and 3 get number 1,
- * and nothing is written.
+ * `channels_length` octets, `meters` to `meters_length` numbers, aligned as
+ * uint64_t is, and `gathered` to `gathered_length` numbers, aligned as uint32_t
+ * is, to be read and written; the rest as at mewkoast_offer. No two of them
+ * share memory. Arrays of other lengths than 6,528, 3 and 4 get number 1, and
+ * nothing is written.
  */
 mewkoast_reply mewkoast_begin_on(uint8_t *channels, size_t channels_length,
                                  uint64_t *meters, size_t meters_length,
+                                 uint32_t *gathered, size_t gathered_length,
                                  uint64_t lit_time, uint64_t points,
                                  uint64_t lit_points);
 mewkoast_reply mewkoast_offer_on(uint8_t *channels, size_t channels_length,
                                  uint64_t *meters, size_t meters_length,
+                                 uint32_t *gathered, size_t gathered_length,
                                  const uint8_t *octets, size_t length,
                                  int32_t *rows, size_t rows_length,
-                                 uint8_t *levels, size_t levels_length);
+                                 uint8_t *levels, size_t levels_length,
+                                 uint8_t *assembly, size_t assembly_length);
 /* The three readings as they stand; a meter that is not lent is read as 0. */
 mewkoast_meters mewkoast_readings_on(const uint64_t *meters,
                                      size_t meters_length);
 
 /*
- * Starts a receiver with three readings, every channel closed, whatever the
- * record held before. The reply is 0 in all but the number, which is 0, or 23
- * where a reading is above the limit: then all three are 0.
+ * Starts a receiver with three readings, every channel closed and no frame
+ * gathered, whatever the record held before. The reply is 0 in all but the
+ * number, which is 0, or 23 where a reading is above the limit: then all three
+ * are 0.
  */
 static inline mewkoast_reply
 mewkoast_begin(mewkoast_receiver *receiver, uint64_t lit_time, uint64_t points,
                uint64_t lit_points)
 {
     return mewkoast_begin_on(receiver->channels, sizeof receiver->channels,
-                             receiver->meters, 3, lit_time, points, lit_points);
+                             receiver->meters, 3, receiver->gathered, 4,
+                             lit_time, points, lit_points);
 }
 
 /*
  * Offers one message to the receiver, which is left as the next one, and gives
- * the reply. After a refusal the record (19 apart, which closes the channel)
- * and the lent rows and levels hold what they held; after an acceptance the
- * decoded points from the start of `rows`, 24 numbers each, or the levels in
- * their places, and nothing else new.
+ * the reply. After a refusal the meters, the channels (19 apart, which closes
+ * one) and the lent rows and levels hold what they held; after an acceptance
+ * the decoded points from the start of `rows`, 24 numbers each, or the levels
+ * in their places, and nothing else new. The assembly slice gets the octets of
+ * fragments and nothing else, as above.
  *
  * The host owes valid pointers and lengths and nothing else: `octets` to
  * `length` octets to be read, `rows` to `rows_length` numbers and `levels` to
- * `levels_length` octets to be written, no two of them nor the record sharing
- * memory. Any message, of any length and any octets, and any record get a
- * reply.
+ * `levels_length` octets to be written, `assembly` to `assembly_length` octets
+ * to be read and written, no two of them nor the record sharing memory. Any
+ * message, of any length and any octets, any record and any assembly slice get
+ * a reply.
  */
 static inline mewkoast_reply
 mewkoast_offer(mewkoast_receiver *receiver, const uint8_t *octets,
                size_t length, int32_t *rows, size_t rows_length,
-               uint8_t *levels, size_t levels_length)
+               uint8_t *levels, size_t levels_length, uint8_t *assembly,
+               size_t assembly_length)
 {
     return mewkoast_offer_on(receiver->channels, sizeof receiver->channels,
-                             receiver->meters, 3, octets, length, rows,
-                             rows_length, levels, levels_length);
+                             receiver->meters, 3, receiver->gathered, 4, octets,
+                             length, rows, rows_length, levels, levels_length,
+                             assembly, assembly_length);
 }
 
 /* The three readings of a record as they stand. */
@@ -372,14 +424,16 @@ mewkoast_outcome mewkoast_start(uint64_t lit_time, uint64_t points,
 mewkoast_outcome mewkoast_message(mewkoast_receiver receiver,
                                   const uint8_t *octets, size_t length,
                                   int32_t *rows, size_t rows_length,
-                                  uint8_t *levels, size_t levels_length);
+                                  uint8_t *levels, size_t levels_length,
+                                  uint8_t *assembly, size_t assembly_length);
 
 /* By value: what mewkoast_readings_of gives. */
 mewkoast_meters mewkoast_readings(mewkoast_receiver receiver);
 
 /*
  * Where the data section of a message stands: from octet 8, 12 or
- * 12 + 4 * SCWC to the end; start 0 and length 0 where 2, 3 or 5 applies.
+ * 12 + 4 * SCWC to the end, of a sequel (0xC0) always from octet 8; start 0 and
+ * length 0 where 2, 3 or 5 applies, of which 5 never does to a sequel.
  */
 mewkoast_span mewkoast_data_section(const uint8_t *octets, size_t length);
 

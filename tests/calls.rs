@@ -1,73 +1,17 @@
-//! The calls of include/mewkoast.h, on slices.
+//! The calls of the receiver in include/mewkoast.h, on slices. Those of the tag
+//! layer are in tests/tag_calls.rs.
 
 // Each test calls some of these.
 #![allow(dead_code)]
 
 use decoder::receiver as own;
 
-/// mewkoast_sample_layout.
-#[repr(C)]
-#[derive(Clone, Copy, Debug, PartialEq, Eq)]
-pub struct SampleLayout {
-    pub roles: [u8; 32],
-    pub waves: [u16; 8],
-    pub space: u16,
-    pub width: u8,
-    pub colours: u8,
-}
-
-impl SampleLayout {
-    /// What a refusal leaves.
-    pub const NONE: SampleLayout = SampleLayout {
-        roles: [0; 32],
-        waves: [0; 8],
-        space: 0,
-        width: 0,
-        colours: 0,
-    };
-}
-
-/// mewkoast_checked_dictionary.
-#[repr(C)]
-#[derive(Clone, Copy)]
-pub struct CheckedDictionary {
-    pub number: u8,
-    pub layout: SampleLayout,
-}
-
-/// mewkoast_dimmer_mapping.
-#[repr(C)]
-#[derive(Clone, Copy, Debug, PartialEq, Eq)]
-pub struct DimmerMapping {
-    pub bases: [u16; 32],
-    pub counts: [u8; 32],
-    pub base: u16,
-    pub count: u8,
-}
-
-impl DimmerMapping {
-    /// What a refusal leaves.
-    pub const NONE: DimmerMapping = DimmerMapping {
-        bases: [0; 32],
-        counts: [0; 32],
-        base: 0,
-        count: 0,
-    };
-}
-
-/// mewkoast_checked_mapping.
-#[repr(C)]
-#[derive(Clone, Copy)]
-pub struct CheckedMapping {
-    pub number: u8,
-    pub dimmer: DimmerMapping,
-}
-
 /// mewkoast_receiver.
 #[repr(C)]
 #[derive(Clone, Copy, Debug, PartialEq, Eq)]
 pub struct Receiver {
     pub meters: [u64; 3],
+    pub gathered: [u32; 4],
     pub channels: [u8; 6528],
 }
 
@@ -101,24 +45,15 @@ pub struct Readings {
     pub lit_points: u64,
 }
 
+/// mewkoast_span.
+#[repr(C)]
+#[derive(Clone, Copy, Debug, PartialEq, Eq)]
+pub struct Span {
+    pub start: usize,
+    pub length: usize,
+}
+
 extern "C" {
-    fn mewkoast_layout(mode: u32, tags: *const u8, length: usize) -> CheckedDictionary;
-    fn mewkoast_draw(
-        layout: SampleLayout,
-        octets: *const u8,
-        n: usize,
-        rows: *mut i32,
-        rows_length: usize,
-    ) -> usize;
-    fn mewkoast_mapping(tags: *const u8, length: usize) -> CheckedMapping;
-    fn mewkoast_levels(
-        dimmer: DimmerMapping,
-        mode: u8,
-        octets: *const u8,
-        n: usize,
-        levels: *mut u8,
-        levels_length: usize,
-    ) -> usize;
     fn mewkoast_start(lit_time: u64, points: u64, lit_points: u64) -> Outcome;
     fn mewkoast_message(
         receiver: Receiver,
@@ -128,6 +63,8 @@ extern "C" {
         rows_length: usize,
         levels: *mut u8,
         levels_length: usize,
+        assembly: *mut u8,
+        assembly_length: usize,
     ) -> Outcome;
     fn mewkoast_readings(receiver: Receiver) -> Readings;
     fn mewkoast_begin_on(
@@ -135,6 +72,8 @@ extern "C" {
         channels_length: usize,
         meters: *mut u64,
         meters_length: usize,
+        gathered: *mut u32,
+        gathered_length: usize,
         lit_time: u64,
         points: u64,
         lit_points: u64,
@@ -144,14 +83,19 @@ extern "C" {
         channels_length: usize,
         meters: *mut u64,
         meters_length: usize,
+        gathered: *mut u32,
+        gathered_length: usize,
         octets: *const u8,
         length: usize,
         rows: *mut i32,
         rows_length: usize,
         levels: *mut u8,
         levels_length: usize,
+        assembly: *mut u8,
+        assembly_length: usize,
     ) -> Reply;
     fn mewkoast_readings_on(meters: *const u64, meters_length: usize) -> Readings;
+    fn mewkoast_data_section(octets: *const u8, length: usize) -> Span;
 }
 
 impl Readings {
@@ -176,52 +120,20 @@ impl Reply {
     }
 }
 
-/// Where the code of the calls that take and leave a record stands, to tell it
-/// from that of another archive.
-pub fn addresses() -> [*const (); 4] {
+/// Where the code of the calls that tests/before makes stands, to tell it from
+/// that of another archive.
+pub fn addresses() -> [*const (); 5] {
     [
         mewkoast_start as *const (),
         mewkoast_message as *const (),
         mewkoast_begin_on as *const (),
         mewkoast_offer_on as *const (),
+        mewkoast_data_section as *const (),
     ]
 }
 
 // SAFETY, of each call below: the pointers and lengths are those of slices,
 // and a slice that is written is borrowed alone.
-
-pub fn layout(mode: u8, tags: &[u8]) -> CheckedDictionary {
-    unsafe { mewkoast_layout(mode.into(), tags.as_ptr(), tags.len()) }
-}
-
-pub fn draw(layout: SampleLayout, octets: &[u8], rows: &mut [i32]) -> usize {
-    unsafe {
-        mewkoast_draw(
-            layout,
-            octets.as_ptr(),
-            octets.len(),
-            rows.as_mut_ptr(),
-            rows.len(),
-        )
-    }
-}
-
-pub fn mapping(tags: &[u8]) -> CheckedMapping {
-    unsafe { mewkoast_mapping(tags.as_ptr(), tags.len()) }
-}
-
-pub fn levels(dimmer: DimmerMapping, mode: u8, octets: &[u8], levels: &mut [u8]) -> usize {
-    unsafe {
-        mewkoast_levels(
-            dimmer,
-            mode,
-            octets.as_ptr(),
-            octets.len(),
-            levels.as_mut_ptr(),
-            levels.len(),
-        )
-    }
-}
 
 pub fn start([lit_time, points, lit_points]: [u64; 3]) -> Outcome {
     unsafe { mewkoast_start(lit_time, points, lit_points) }
@@ -231,7 +143,13 @@ pub fn start([lit_time, points, lit_points]: [u64; 3]) -> Outcome {
 /// the call: the record goes to the stack as the argument, and the result, by
 /// way of the stack, to its place. bench/receiver/turns.c spares the second.
 #[inline(always)]
-pub fn message(receiver: &Receiver, octets: &[u8], rows: &mut [i32], levels: &mut [u8]) -> Outcome {
+pub fn message(
+    receiver: &Receiver,
+    octets: &[u8],
+    rows: &mut [i32],
+    levels: &mut [u8],
+    assembly: &mut [u8],
+) -> Outcome {
     unsafe {
         mewkoast_message(
             *receiver,
@@ -241,6 +159,8 @@ pub fn message(receiver: &Receiver, octets: &[u8], rows: &mut [i32], levels: &mu
             rows.len(),
             levels.as_mut_ptr(),
             levels.len(),
+            assembly.as_mut_ptr(),
+            assembly.len(),
         )
     }
 }
@@ -249,14 +169,32 @@ pub fn readings(receiver: &Receiver) -> [u64; 3] {
     unsafe { mewkoast_readings(*receiver) }.three()
 }
 
-pub fn begin_on(channels: &mut [u8], meters: &mut [u64], readings: [u64; 3]) -> Reply {
-    let [lit_time, points, lit_points] = readings;
+/// The arrays of a record that is changed in place.
+pub struct Arrays<'a> {
+    pub channels: &'a mut [u8],
+    pub meters: &'a mut [u64],
+    pub gathered: &'a mut [u32],
+}
+
+impl Receiver {
+    pub fn arrays(&mut self) -> Arrays<'_> {
+        Arrays {
+            channels: &mut self.channels,
+            meters: &mut self.meters,
+            gathered: &mut self.gathered,
+        }
+    }
+}
+
+pub fn begin_on(record: Arrays, [lit_time, points, lit_points]: [u64; 3]) -> Reply {
     unsafe {
         mewkoast_begin_on(
-            channels.as_mut_ptr(),
-            channels.len(),
-            meters.as_mut_ptr(),
-            meters.len(),
+            record.channels.as_mut_ptr(),
+            record.channels.len(),
+            record.meters.as_mut_ptr(),
+            record.meters.len(),
+            record.gathered.as_mut_ptr(),
+            record.gathered.len(),
             lit_time,
             points,
             lit_points,
@@ -266,28 +204,36 @@ pub fn begin_on(channels: &mut [u8], meters: &mut [u64], readings: [u64; 3]) -> 
 
 #[inline(always)]
 pub fn offer_on(
-    channels: &mut [u8],
-    meters: &mut [u64],
+    record: Arrays,
     octets: &[u8],
     rows: &mut [i32],
     levels: &mut [u8],
+    assembly: &mut [u8],
 ) -> Reply {
     unsafe {
         mewkoast_offer_on(
-            channels.as_mut_ptr(),
-            channels.len(),
-            meters.as_mut_ptr(),
-            meters.len(),
+            record.channels.as_mut_ptr(),
+            record.channels.len(),
+            record.meters.as_mut_ptr(),
+            record.meters.len(),
+            record.gathered.as_mut_ptr(),
+            record.gathered.len(),
             octets.as_ptr(),
             octets.len(),
             rows.as_mut_ptr(),
             rows.len(),
             levels.as_mut_ptr(),
             levels.len(),
+            assembly.as_mut_ptr(),
+            assembly.len(),
         )
     }
 }
 
 pub fn readings_on(meters: &[u64]) -> [u64; 3] {
     unsafe { mewkoast_readings_on(meters.as_ptr(), meters.len()) }.three()
+}
+
+pub fn data_section(octets: &[u8]) -> Span {
+    unsafe { mewkoast_data_section(octets.as_ptr(), octets.len()) }
 }

@@ -5,20 +5,14 @@
 
 enum { HEADER = 8, CONFIGURED = 12, LARGEST = 65280, CHUNK_HEADER = 4 };
 enum { TYPE_VOID = 0x00, TYPE_WAVE = 0x01, TYPE_FRAME = 0x02, TYPE_LEVELS = 0x18 };
+/* C-12: a frame in fragments. */
+enum { TYPE_FIRST = 0x03, TYPE_SEQUEL = 0xC0 };
 
 /* A message that passed checks 2 to 5. */
 struct message {
     const uint8_t *octets, *data;
     size_t length;
     uint8_t channel, type, routing, closing;
-};
-
-/* What the host lends. */
-struct lent {
-    int32_t *rows;
-    size_t row_numbers;
-    uint8_t *levels;
-    size_t level_octets;
 };
 
 static uint32_t word_at(const uint8_t *octets)
@@ -70,10 +64,11 @@ static uint8_t read_header(const uint8_t *octets, size_t length, struct message 
     if (!(octets[2] & 0x80))
         return 3;
     m->type = octets[3];
-    if (m->type > TYPE_FRAME && m->type != TYPE_LEVELS)
+    if (m->type > TYPE_FIRST && m->type != TYPE_LEVELS && m->type != TYPE_SEQUEL)
         return 4;
     m->routing = m->closing = 0;
-    if (octets[2] & 0x40) {
+    /* In a sequel the bit marks the last one. */
+    if (octets[2] & 0x40 && m->type != TYPE_SEQUEL) {
         start = CONFIGURED;
         if (length < CONFIGURED)
             return 5;
@@ -103,7 +98,7 @@ static int passes_limit(const struct card *card, const struct card_samples *plan
 
 /* Checks 20, 22 and 23 of a wave or frame, then its points and the meters. */
 static uint8_t take_samples(struct card *card, const struct card_samples *plan,
-                            const struct message *m, const struct lent *lent,
+                            const struct message *m, const struct card_lent *lent,
                             struct card_reply *reply)
 {
     uint32_t octets = (uint32_t)(m->length - CHUNK_HEADER);
@@ -138,7 +133,7 @@ static uint8_t take_samples(struct card *card, const struct card_samples *plan,
 
 /* Checks 21 and 22 of dimmer levels, then the levels. */
 static uint8_t take_levels(const struct card_dimmer *plan, const struct message *m,
-                           const struct lent *lent, struct card_reply *reply)
+                           const struct card_lent *lent, struct card_reply *reply)
 {
     size_t count = m->length - CHUNK_HEADER;
     const uint8_t *from = m->data + CHUNK_HEADER;
@@ -161,10 +156,36 @@ static uint8_t take_levels(const struct card_dimmer *plan, const struct message 
     return 0;
 }
 
-/* Checks 17 to 23. */
-static uint8_t read_chunk(struct card *card, uint8_t state,
-                          const struct card_channel *channel, const struct message *m,
-                          const struct lent *lent, struct card_reply *reply)
+static struct card_fragment fragment_of(const struct message *m)
+{
+    return (struct card_fragment){m->data, m->length, word_at(m->octets + 4), m->channel};
+}
+
+/* Checks 24 to 26; the frame so far is left in `whole`. */
+static uint8_t take_sequel(struct card *card, const struct message *m,
+                           const struct card_lent *lent, struct message *whole)
+{
+    struct card_fragment fragment = fragment_of(m);
+    uint8_t number = card_sequel(&card->gathering, &fragment, lent);
+
+    *whole = *m;
+    whole->type = TYPE_FRAME;
+    whole->data = lent->assembly;
+    whole->length = card->gathering.octets;
+    return number;
+}
+
+static uint8_t take_first(struct card *card, const struct message *m,
+                          const struct card_lent *lent)
+{
+    struct card_fragment fragment = fragment_of(m);
+
+    return card_first(&card->gathering, &fragment, lent);
+}
+
+/* Checks 17 to 19. */
+static uint8_t match_chunk(uint8_t state, const struct card_channel *channel,
+                           const struct message *m)
 {
     static const uint8_t type_of[CARD_STATES] = {
         [CARD_WAVE] = TYPE_WAVE,
@@ -173,25 +194,50 @@ static uint8_t read_chunk(struct card *card, uint8_t state,
         [CARD_DMX] = TYPE_LEVELS,
     };
 
+    if (m->type != type_of[state] && (m->type != TYPE_FIRST || state != CARD_FRAME))
+        return 17;
+    if (m->length < CHUNK_HEADER)
+        return 18;
+    return (m->data[0] >> 4 & 3) != channel->match ? 19 : 0;
+}
+
+/*
+ * Checks 17 to 26. One place takes the samples of a frame in one message and of
+ * one in fragments, so that the reply stays in registers.
+ */
+static uint8_t read_chunk(struct card *card, uint8_t state,
+                          const struct card_channel *channel, const struct message *m,
+                          const struct card_lent *lent, struct card_reply *reply)
+{
+    struct message whole;
+    uint8_t number;
+
     if (state == CARD_VOID)
         return 0;
     if (m->type == TYPE_VOID)
         return m->length != 0 ? 18 : 0;
-    if (m->type != type_of[state])
-        return 17;
-    if (m->length < CHUNK_HEADER)
-        return 18;
-    if ((m->data[0] >> 4 & 3) != channel->match)
-        return 19;
-    if (m->type == TYPE_LEVELS)
-        return take_levels(&channel->plan.dimmer, m, lent, reply);
+    if (m->type == TYPE_SEQUEL) {
+        number = take_sequel(card, m, lent, &whole);
+        if (number != 0 || !(m->octets[2] & 0x40))
+            return number;
+        card->gathering.on = 0;
+        m = &whole;
+    } else {
+        number = match_chunk(state, channel, m);
+        if (number != 0)
+            return number;
+        if (m->type == TYPE_LEVELS)
+            return take_levels(&channel->plan.dimmer, m, lent, reply);
+        if (m->type == TYPE_FIRST)
+            return take_first(card, m, lent);
+    }
     return take_samples(card, &channel->plan.samples, m, lent, reply);
 }
 
 /* The chunk, then Close; also where SCM tells that a configuration was lost. */
 static struct card_reply take_chunk(struct card *card, uint8_t state,
                                     const struct card_channel *channel,
-                                    const struct message *m, const struct lent *lent)
+                                    const struct message *m, const struct card_lent *lent)
 {
     struct card_reply reply = {
         .channel = m->channel,
@@ -201,34 +247,11 @@ static struct card_reply take_chunk(struct card *card, uint8_t state,
     };
     uint8_t number = read_chunk(card, state, channel, m, lent, &reply);
 
-    if (number == 19 || (number == 0 && m->closing))
+    if (number == 19 || (number == 0 && m->closing)) {
         card->states[m->channel] = CARD_CLOSED;
+        card_drop(&card->gathering, m->channel);
+    }
     return number == 0 ? reply : refusal(number);
-}
-
-/* Checks 6 to 14; the state that the mode gives, or CARD_CLOSED. */
-static uint8_t read_configuration(const uint8_t *octets, uint8_t *state,
-                                  struct card_channel *next)
-{
-    static const uint8_t state_of[7] = {
-        CARD_VOID, CARD_WAVE, CARD_FRAME, CARD_CLOSED, CARD_EFFECTS, CARD_CLOSED, CARD_DMX,
-    };
-    /* Bit s is set where service s goes with the state. */
-    static const uint8_t services[CARD_STATES] = {0, 7, 3, 3, 3, 5};
-    size_t length = 4 * (size_t)octets[8];
-    uint8_t service = octets[10], mode = octets[11];
-
-    *state = mode < sizeof state_of ? state_of[mode] : (uint8_t)CARD_CLOSED;
-    if (*state == CARD_CLOSED)
-        return 6;
-    if (service > 2 || !(services[*state] >> service & 1))
-        return 7;
-    next->match = octets[9] >> 4 & 3;
-    if (*state == CARD_VOID)
-        return 0;
-    if (*state <= CARD_FRAME)
-        return card_dictionary(*state, octets + CONFIGURED, length, next);
-    return card_mapping(*state, octets + CONFIGURED, length, next);
 }
 
 /* Check 15. */
@@ -246,19 +269,22 @@ static int another_wave(const struct card *card, uint8_t channel)
  * message is accepted. Out of line: its plan is not on the stack of the others.
  */
 static __attribute__((noinline)) struct card_reply
-route(struct card *card, const struct message *m, const struct lent *lent)
+route(struct card *card, const struct message *m, const struct card_lent *lent)
 {
     struct card_channel next;
     struct card_reply reply;
     uint8_t state, number;
 
     memset(&next, 0, sizeof next);
-    number = read_configuration(m->octets, &state, &next);
+    number = card_configuration(m->octets, &state, &next);
     if (number != 0)
         return refusal(number);
     if (state == CARD_WAVE && another_wave(card, m->channel))
         return refusal(15);
     reply = take_chunk(card, state, &next, m, lent);
+    /* A routing drops what was gathered, but not what it began itself. */
+    if (reply.number == 0 && (m->type != TYPE_FIRST || state != CARD_FRAME))
+        card_drop(&card->gathering, m->channel);
     if (reply.number == 0 && !m->closing) {
         card->channels[m->channel] = next;
         card->states[m->channel] = state;
@@ -268,9 +294,11 @@ route(struct card *card, const struct message *m, const struct lent *lent)
 
 struct card_reply card_message(struct card *card, const uint8_t *octets,
                                size_t length, int32_t *rows, size_t row_numbers,
-                               uint8_t *levels, size_t level_octets)
+                               uint8_t *levels, size_t level_octets,
+                               uint8_t *assembly, size_t assembly_octets)
 {
-    struct lent lent = {rows, row_numbers, levels, level_octets};
+    struct card_lent lent = {rows, row_numbers, levels, level_octets,
+                             assembly, assembly_octets};
     struct message m;
     uint8_t number, state;
 

@@ -1,10 +1,11 @@
 /*
  * A receiver for a card, in plain C, to measure beside the proved one.
  *
- * Written from document 01 and IDN-Stream, Revision 001, alone. The record is
- * changed in place and can be static: nothing is taken from a heap. What a
- * configuration says is worked out once, when a channel is routed, and kept in
- * the record as a plan for drawing.
+ * Written from document 01 and IDN-Stream, Revision 001, alone; what C-12 adds,
+ * frames in fragments, with the other receivers at hand. The record is changed
+ * in place and can be static: nothing is taken from a heap. What a configuration
+ * says is worked out once, when a channel is routed, and kept in the record as a
+ * plan for drawing.
  */
 #ifndef CARD_H
 #define CARD_H
@@ -16,6 +17,9 @@ enum { CARD_CHANNELS = 64, CARD_ROW = 24, CARD_PLACES = 1024, CARD_RANGES = 32 }
 
 /* Ten million hours in microseconds; the limit of each meter. */
 #define CARD_LIMIT UINT64_C(36000000000000000)
+
+/* The most octets of a frame in fragments (check 26). */
+#define CARD_LONGEST UINT32_C(1000000000)
 
 /* What a channel is doing; any other value breaks the record (check 1). */
 enum card_state {
@@ -91,9 +95,17 @@ struct card_channel {
     } plan;
 };
 
+/* The frame that comes in fragments; its octets stand in the assembly slice. */
+struct card_gathering {
+    uint32_t octets; /* so far */
+    uint32_t due;    /* the timestamp of the next sequel */
+    uint8_t on;      /* its channel + 1, or 0 if there is none */
+};
+
 struct card {
     uint8_t states[CARD_CHANNELS];
     uint64_t lit_time, points, lit_points;
+    struct card_gathering gathering;
     struct card_channel channels[CARD_CHANNELS];
 };
 
@@ -108,12 +120,31 @@ struct card_reply {
 uint8_t card_start(struct card *card, uint64_t lit_time, uint64_t points,
                    uint64_t lit_points);
 
-/* A refused message writes nothing; only 19 closes the channel. */
+/*
+ * A refused message writes nothing, but for the last fragment of a frame that is
+ * refused whole; only 19 closes the channel. The assembly slice is lent
+ * unaltered and at one length for as long as a frame is gathered.
+ */
 struct card_reply card_message(struct card *card, const uint8_t *octets,
                                size_t length, int32_t *rows, size_t row_numbers,
-                               uint8_t *levels, size_t level_octets);
+                               uint8_t *levels, size_t level_octets,
+                               uint8_t *assembly, size_t assembly_octets);
 
 /* ---- Between the parts of the card ------------------------------------- */
+
+/* What the host lends. */
+struct card_lent {
+    int32_t *rows;
+    size_t row_numbers;
+    uint8_t *levels;
+    size_t level_octets;
+    uint8_t *assembly;
+    size_t assembly_octets;
+};
+
+/* Checks 6 to 14; the state that the mode gives. The channel comes zeroed. */
+uint8_t card_configuration(const uint8_t *octets, uint8_t *state,
+                           struct card_channel *next);
 
 /* Checks 8 to 12; the channel comes zeroed. */
 uint8_t card_dictionary(uint8_t state, const uint8_t *tags, size_t length,
@@ -122,6 +153,27 @@ uint8_t card_dictionary(uint8_t state, const uint8_t *tags, size_t length,
 /* Checks 13 and 14; the channel comes zeroed. */
 uint8_t card_mapping(uint8_t state, const uint8_t *tags, size_t length,
                      struct card_channel *channel);
+
+/* A fragment of a frame. */
+struct card_fragment {
+    const uint8_t *octets;
+    size_t length;
+    uint32_t timestamp;
+    uint8_t channel;
+};
+
+/* A first fragment that passed 19, and check 26; all else is dropped. */
+uint8_t card_first(struct card_gathering *gathering,
+                   const struct card_fragment *fragment,
+                   const struct card_lent *lent);
+
+/* Checks 24 to 26 of a sequel, and its octets behind those before it. */
+uint8_t card_sequel(struct card_gathering *gathering,
+                    const struct card_fragment *fragment,
+                    const struct card_lent *lent);
+
+/* Drops the frame that is gathered on a channel. */
+void card_drop(struct card_gathering *gathering, uint8_t channel);
 
 /* Both answer how many points are lit; the second writes nothing. */
 uint32_t card_draw(const struct card_samples *plan, const uint8_t *samples,

@@ -1,10 +1,16 @@
 //! The messages that are measured. Each has the messages before it that open
-//! its channel; it has no configuration itself, except in the routing cases.
+//! its channel; it has no configuration itself, except in the routing cases. A
+//! frame in fragments is measured whole, from its first to its last.
 
 const VOID: u8 = 0x00;
 const WAVE: u8 = 0x01;
 const FRAME: u8 = 0x02;
+const FIRST: u8 = 0x03;
 const LEVELS: u8 = 0x18;
+const SEQUEL: u8 = 0xC0;
+
+/// The fragments of a frame that is split.
+const FRAGMENTS: usize = 4;
 
 pub struct Case {
     pub name: String,
@@ -12,8 +18,9 @@ pub struct Case {
     pub panel: &'static str,
     /// Offered once, in order, before the measurement.
     pub opening: Vec<Vec<u8>>,
-    pub message: Vec<u8>,
-    /// The number of the reply that is expected.
+    /// What is measured: one message, or the fragments of a frame in order.
+    pub messages: Vec<Vec<u8>>,
+    /// The number of the last reply that is expected.
     pub number: u32,
 }
 
@@ -59,6 +66,8 @@ pub fn all() -> Vec<Case> {
     add("waves of 100 points", layouts(WAVE, 100));
     add("frames of 2 points", layouts(FRAME, 2));
     add("frames of 480 points", layouts(FRAME, 480));
+    let split = LAYOUTS.map(|layout| split(samples(FRAME, 480, layout)));
+    add("frames of 480 points in 4 fragments", split.into());
     let dimmers = [
         levels("levels, 512 from base 1", &[]),
         levels("levels, 512 in 32 ranges", &ranges()),
@@ -89,8 +98,29 @@ fn samples(kind: u8, points: usize, layout: Layout) -> Case {
         panel: "",
         // The modes of waves and frames have the numbers of their types.
         opening: vec![routing(0, 1, kind, &words(kind, tags))],
-        message: plain(0, kind, &data),
+        messages: vec![plain(0, kind, &data)],
         number: 0,
+    }
+}
+
+/// The frame of a case in fragments of about one length, which cut samples.
+fn split(whole: Case) -> Case {
+    let data = &whole.messages[0][8..];
+    let mut messages = Vec::new();
+    for (place, part) in data.chunks(data.len().div_ceil(FRAGMENTS)).enumerate() {
+        let kind = if place == 0 { FIRST } else { SEQUEL };
+        let mut message = plain(0, kind, part);
+        // Timestamps count up from the first one's; CCLF marks the last.
+        message[7] += place as u8;
+        if place + 1 == FRAGMENTS {
+            message[2] |= 0x40;
+        }
+        messages.push(message);
+    }
+    Case {
+        name: format!("{}, in {FRAGMENTS}", whole.name),
+        messages,
+        ..whole
     }
 }
 
@@ -101,7 +131,7 @@ fn levels(name: &str, tags: &[u8]) -> Case {
         name: name.to_string(),
         panel: "",
         opening: vec![routing(0, 1, 4, tags)],
-        message: plain(0, LEVELS, &data),
+        messages: vec![plain(0, LEVELS, &data)],
         number: 0,
     }
 }
@@ -111,7 +141,7 @@ fn levels(name: &str, tags: &[u8]) -> Case {
 fn keep_alive() -> Case {
     Case {
         name: "keep-alive".to_string(),
-        message: plain(0, VOID, &[]),
+        messages: vec![plain(0, VOID, &[])],
         ..samples(WAVE, 100, LAYOUTS[0])
     }
 }
@@ -122,7 +152,7 @@ fn refused() -> Case {
     message[1] += 1;
     Case {
         name: "refused by 2".to_string(),
-        message,
+        messages: vec![message],
         number: 2,
         ..keep_alive()
     }
@@ -142,7 +172,7 @@ fn routed(name: &str, message: Vec<u8>) -> Case {
         name: format!("routing, {name}"),
         panel: "",
         opening: Vec::new(),
-        message,
+        messages: vec![message],
         number: 0,
     }
 }

@@ -1,6 +1,7 @@
 //! A host of each receiver: what is kept between messages, and the slices.
 
 use crate::calls::{self, Outcome};
+use crate::card::Card;
 use crate::cases::Case;
 use decoder::receiver as second;
 use std::hint::black_box;
@@ -19,17 +20,27 @@ pub struct Seen<'a> {
     pub readings: [u64; 3],
     pub rows: &'a [i32],
     pub levels: &'a [u8],
+    pub assembly: &'a [u8],
 }
 
 pub trait Host {
     fn offer(&mut self, octets: &[u8]);
     fn seen(&self) -> Seen<'_>;
 
-    /// Offers a message so many times, each time to the receiver that the
-    /// time before left.
-    fn repeat(&mut self, octets: &[u8], times: usize) {
+    /// Offers messages in order so many times, each time to the receiver that
+    /// the time before left. One message alone has a loop of its own, so that
+    /// nothing else is measured with it.
+    fn repeat(&mut self, messages: &[Vec<u8>], times: usize) {
+        if let [octets] = messages {
+            for _ in 0..times {
+                self.offer(black_box(octets));
+            }
+            return;
+        }
         for _ in 0..times {
-            self.offer(black_box(octets));
+            for octets in messages {
+                self.offer(black_box(octets));
+            }
         }
     }
 }
@@ -47,7 +58,7 @@ pub fn open(way: usize, case: &Case) -> Box<dyn Host> {
 }
 
 /// True if all do the same with the messages of a case, offered one by one and
-/// repeated, and its message gets the number that is expected.
+/// repeated, and the last of them gets the number that is expected.
 pub fn agree(case: &Case) -> bool {
     let mut hosts = [0, 1, 2, 3].map(|way| open(way, case));
     let same = |hosts: &[Box<dyn Host>]| {
@@ -55,37 +66,44 @@ pub fn agree(case: &Case) -> bool {
         hosts.iter().all(|host| host.seen() == expected)
     };
     let opened = same(&hosts);
-    hosts.iter_mut().for_each(|host| host.offer(&case.message));
-    let offered = same(&hosts) && hosts[RUST].seen().reply.number == case.number;
+    let offered = case.messages.iter().all(|octets| {
+        hosts.iter_mut().for_each(|host| host.offer(octets));
+        same(&hosts)
+    });
+    let answered = hosts[RUST].seen().reply.number == case.number;
     let repeated = [2, 3].into_iter().all(|times| {
         for host in &mut hosts {
-            host.repeat(&case.message, times);
+            host.repeat(&case.messages, times);
         }
         same(&hosts)
     });
-    opened && offered && repeated
+    opened && offered && answered && repeated
 }
 
-/// "lends 12,000 numbers and 1,024 octets".
-struct Lent {
-    rows: Vec<i32>,
-    levels: Vec<u8>,
+/// "lends 12,000 numbers and 1,024 octets"; request C-12: "the listing lends
+/// 65,536 octets".
+pub struct Lent {
+    pub rows: Vec<i32>,
+    pub levels: Vec<u8>,
+    pub assembly: Vec<u8>,
 }
 
 impl Lent {
-    fn new() -> Lent {
+    pub fn new() -> Lent {
         Lent {
             rows: vec![-7; 12_000],
             levels: vec![7; 1_024],
+            assembly: vec![7; 65_536],
         }
     }
 
-    fn seen(&self, reply: second::Reply, readings: [u64; 3]) -> Seen<'_> {
+    pub fn seen(&self, reply: second::Reply, readings: [u64; 3]) -> Seen<'_> {
         Seen {
             reply,
             readings,
             rows: &self.rows,
             levels: &self.levels,
+            assembly: &self.assembly,
         }
     }
 }
@@ -105,43 +123,70 @@ impl ByValue {
     }
 }
 
+/// turn_message of turns.c.
+#[repr(C)]
+struct TurnMessage {
+    octets: *const u8,
+    length: usize,
+}
+
+/// turn_lent of turns.c.
+#[repr(C)]
+struct TurnLent {
+    rows: *mut i32,
+    rows_length: usize,
+    levels: *mut u8,
+    levels_length: usize,
+    assembly: *mut u8,
+    assembly_length: usize,
+}
+
 extern "C" {
-    /// turns.c: so many messages by a C host that keeps two outcomes by turns.
+    /// turns.c: messages in order, so many times, by a C host that keeps two
+    /// outcomes by turns.
     fn offer_in_turns(
         kept: *mut Outcome,
         times: usize,
-        octets: *const u8,
-        length: usize,
-        rows: *mut i32,
-        rows_length: usize,
-        levels: *mut u8,
-        levels_length: usize,
+        messages: *const TurnMessage,
+        count: usize,
+        lent: *const TurnLent,
     );
 }
 
 impl Host for ByValue {
-    fn repeat(&mut self, octets: &[u8], times: usize) {
-        let Lent { rows, levels } = &mut self.lent;
+    fn repeat(&mut self, messages: &[Vec<u8>], times: usize) {
+        let turns: Vec<TurnMessage> = messages
+            .iter()
+            .map(|octets| TurnMessage {
+                octets: octets.as_ptr(),
+                length: octets.len(),
+            })
+            .collect();
+        let lent = &mut self.lent;
+        let lent = TurnLent {
+            rows: lent.rows.as_mut_ptr(),
+            rows_length: lent.rows.len(),
+            levels: lent.levels.as_mut_ptr(),
+            levels_length: lent.levels.len(),
+            assembly: lent.assembly.as_mut_ptr(),
+            assembly_length: lent.assembly.len(),
+        };
         // SAFETY: the pointers and lengths are those of slices, and what is
-        // written is borrowed alone. So too at card_message.
-        unsafe {
-            offer_in_turns(
-                &mut *self.kept,
-                times,
-                octets.as_ptr(),
-                octets.len(),
-                rows.as_mut_ptr(),
-                rows.len(),
-                levels.as_mut_ptr(),
-                levels.len(),
-            );
-        }
+        // written is borrowed alone.
+        unsafe { offer_in_turns(&mut *self.kept, times, turns.as_ptr(), turns.len(), &lent) }
     }
 
     /// The outcome is kept in one place, as a plain host does.
     fn offer(&mut self, octets: &[u8]) {
-        let Lent { rows, levels } = &mut self.lent;
-        *self.kept = calls::message(&self.kept.receiver, octets, rows, levels);
+        let lent = &mut self.lent;
+        let (rows, levels) = (&mut lent.rows, &mut lent.levels);
+        *self.kept = calls::message(
+            &self.kept.receiver,
+            octets,
+            rows,
+            levels,
+            &mut lent.assembly,
+        );
         black_box((&self.lent.rows, &self.lent.levels, &self.kept));
     }
 
@@ -162,9 +207,10 @@ impl InPlace {
     fn start() -> InPlace {
         let mut receiver = Box::new(calls::Receiver {
             meters: [7; 3],
+            gathered: [7; 4],
             channels: [7; 6528],
         });
-        let reply = calls::begin_on(&mut receiver.channels, &mut receiver.meters, [0; 3]);
+        let reply = calls::begin_on(receiver.arrays(), [0; 3]);
         InPlace {
             receiver,
             reply,
@@ -175,9 +221,10 @@ impl InPlace {
 
 impl Host for InPlace {
     fn offer(&mut self, octets: &[u8]) {
-        let Lent { rows, levels } = &mut self.lent;
-        let calls::Receiver { meters, channels } = &mut *self.receiver;
-        self.reply = calls::offer_on(channels, meters, octets, rows, levels);
+        let lent = &mut self.lent;
+        let (rows, levels) = (&mut lent.rows, &mut lent.levels);
+        let record = self.receiver.arrays();
+        self.reply = calls::offer_on(record, octets, rows, levels, &mut lent.assembly);
         black_box((&self.lent.rows, &self.lent.levels, &self.reply));
     }
 
@@ -207,74 +254,13 @@ impl Second {
 
 impl Host for Second {
     fn offer(&mut self, octets: &[u8]) {
-        let Lent { rows, levels } = &mut self.lent;
-        self.reply = self.receiver.message(octets, rows, levels);
+        let lent = &mut self.lent;
+        let (rows, levels) = (&mut lent.rows, &mut lent.levels);
+        self.reply = (self.receiver).message(octets, rows, levels, &mut lent.assembly);
         black_box((&self.lent.rows, &self.lent.levels, &self.reply));
     }
 
     fn seen(&self) -> Seen<'_> {
         self.lent.seen(self.reply, self.receiver.readings())
-    }
-}
-
-/// The receiver of card.h, in memory of its own.
-struct Card {
-    memory: Vec<u64>,
-    reply: calls::Reply,
-    lent: Lent,
-}
-
-// Its reply has the fields of mewkoast_reply in the same order.
-extern "C" {
-    fn card_octets() -> usize;
-    fn card_readings(card: *const u64, readings: *mut [u64; 3]);
-    fn card_start(card: *mut u64, lit_time: u64, points: u64, lit_points: u64) -> u8;
-    fn card_message(
-        card: *mut u64,
-        octets: *const u8,
-        length: usize,
-        rows: *mut i32,
-        row_numbers: usize,
-        levels: *mut u8,
-        level_octets: usize,
-    ) -> calls::Reply;
-}
-
-impl Card {
-    fn start() -> Card {
-        let mut memory = vec![7; unsafe { card_octets() }.div_ceil(8)];
-        let number = unsafe { card_start(memory.as_mut_ptr(), 0, 0, 0) };
-        Card {
-            memory,
-            reply: calls::Reply {
-                number,
-                ..calls::Reply::default()
-            },
-            lent: Lent::new(),
-        }
-    }
-}
-
-impl Host for Card {
-    fn offer(&mut self, octets: &[u8]) {
-        let Lent { rows, levels } = &mut self.lent;
-        self.reply = unsafe {
-            card_message(
-                self.memory.as_mut_ptr(),
-                octets.as_ptr(),
-                octets.len(),
-                rows.as_mut_ptr(),
-                rows.len(),
-                levels.as_mut_ptr(),
-                levels.len(),
-            )
-        };
-        black_box((&self.lent.rows, &self.lent.levels, &self.reply));
-    }
-
-    fn seen(&self) -> Seen<'_> {
-        let mut readings = [0; 3];
-        unsafe { card_readings(self.memory.as_ptr(), &mut readings) };
-        self.lent.seen(self.reply.own(), readings)
     }
 }

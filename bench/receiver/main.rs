@@ -9,10 +9,11 @@
 //!
 //! The first form prints the tables, and writes the times to FILE in the form
 //! that bench/picture.rs reads. The second one prints the names of the cases in
-//! order. The third one offers the message of the case with this place, from
+//! order. The third one offers the messages of the case with this place, from
 //! 0, so many times inside `repeated_messages`, for a counter of instructions;
 //! WAY is the place of the way from 0.
 
+mod card;
 mod cases;
 mod hosts;
 mod report;
@@ -65,6 +66,7 @@ fn tables(cases: &[Case], file: Option<&str>) -> bool {
     println!();
     report::shares(cases, &bests);
     report::growth(cases, &bests);
+    report::fragments(cases, &bests);
     report::copies(cases);
     println!();
     report::stacks(cases);
@@ -82,7 +84,7 @@ fn repeat(cases: &[Case], way: &str, place: &str, times: &str) -> Option<bool> {
     let case = cases.get(place.parse::<usize>().ok()?)?;
     repeated_messages(
         &mut *hosts::open(way, case),
-        &case.message,
+        &case.messages,
         times.parse().ok()?,
     );
     Some(true)
@@ -90,6 +92,6 @@ fn repeat(cases: &[Case], way: &str, place: &str, times: &str) -> Option<bool> {
 
 /// A name that stays in the program, so that a tool can count inside it alone.
 #[inline(never)]
-fn repeated_messages(host: &mut dyn Host, octets: &[u8], times: usize) {
-    host.repeat(octets, times);
+fn repeated_messages(host: &mut dyn Host, messages: &[Vec<u8>], times: usize) {
+    host.repeat(messages, times);
 }

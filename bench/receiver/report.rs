@@ -7,14 +7,18 @@ use crate::stack;
 use crate::time::{self, Best};
 
 pub fn head() {
-    println!("ns a message, best of {} alternating runs", time::RUNS);
-    print!("{:<29} {:>6}", "message", "octets");
+    println!(
+        "ns a message or split frame, best of {} alternating runs",
+        time::RUNS
+    );
+    print!("{:<31} {:>6}", "message", "octets");
     WAYS.iter().for_each(|way| print!(" {way:>8}"));
     println!("  place/Rust  place/C");
 }
 
 pub fn line(case: &Case, best: &Best) {
-    print!("{:<29} {:>6}", case.name, case.message.len());
+    let octets: usize = case.messages.iter().map(Vec::len).sum();
+    print!("{:<31} {octets:>6}", case.name);
     best.iter().for_each(|time| print!(" {time:>8.0}"));
     println!(
         " {:>11.2} {:>8.2}",
@@ -57,6 +61,20 @@ pub fn growth(cases: &[Case], bests: &[Best]) {
                 &one,
             );
         }
+    }
+}
+
+/// What a frame takes in fragments, of what it takes in one message.
+pub fn fragments(cases: &[Case], bests: &[Best]) {
+    for layout in ["sparse", "usual", "full"] {
+        let whole = format!("frame, 480 points, {layout}");
+        let split = place(cases, &format!("{whole}, in 4"));
+        let whole = place(cases, &whole);
+        share(
+            &format!("{} of whole", cases[split].name),
+            &bests[split],
+            &bests[whole],
+        );
     }
 }
 

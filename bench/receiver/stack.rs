@@ -36,9 +36,12 @@ struct Work<'a> {
 #[derive(Clone, Copy)]
 struct Page([u8; 4096]);
 
-/// The octets that a way takes for the message; none if no thread started.
+/// The octets that a way takes for the last message; none if no thread started.
 pub fn of(way: usize, case: &Case) -> Option<usize> {
-    depth(&mut *open(way, case), &case.message)
+    let mut host = open(way, case);
+    let (last, before) = case.messages.split_last()?;
+    before.iter().for_each(|octets| host.offer(octets));
+    depth(&mut *host, last)
 }
 
 /// The octets below the frame that makes the call.

@@ -6,23 +6,48 @@
  */
 #include "mewkoast.h"
 
+/* What is offered, and what is lent with it. */
+struct turn_message {
+    const uint8_t *octets;
+    size_t length;
+};
+
+struct turn_lent {
+    int32_t *rows;
+    size_t rows_length;
+    uint8_t *levels;
+    size_t levels_length;
+    uint8_t *assembly;
+    size_t assembly_length;
+};
+
 void offer_in_turns(mewkoast_outcome *kept, size_t times,
-                    const uint8_t *octets, size_t length,
-                    int32_t *rows, size_t rows_length,
-                    uint8_t *levels, size_t levels_length)
+                    const struct turn_message *messages, size_t count,
+                    const struct turn_lent *lent);
+
+#define NEXT(from)                                                             \
+    mewkoast_message((from).receiver, messages[place].octets,                  \
+                     messages[place].length, lent->rows, lent->rows_length,    \
+                     lent->levels, lent->levels_length, lent->assembly,        \
+                     lent->assembly_length)
+
+/* All the messages in order, so many times. */
+void offer_in_turns(mewkoast_outcome *kept, size_t times,
+                    const struct turn_message *messages, size_t count,
+                    const struct turn_lent *lent)
 {
     mewkoast_outcome a = *kept;
     mewkoast_outcome b;
+    size_t place = 0;
 
-    for (; times >= 2; times -= 2) {
-        b = mewkoast_message(a.receiver, octets, length, rows, rows_length,
-                             levels, levels_length);
-        a = mewkoast_message(b.receiver, octets, length, rows, rows_length,
-                             levels, levels_length);
+    for (times *= count; times >= 2; times -= 2) {
+        b = NEXT(a);
+        place = place + 1 == count ? 0 : place + 1;
+        a = NEXT(b);
+        place = place + 1 == count ? 0 : place + 1;
     }
     if (times == 1) {
-        b = mewkoast_message(a.receiver, octets, length, rows, rows_length,
-                             levels, levels_length);
+        b = NEXT(a);
         a = b;
     }
     *kept = a;

@@ -1,21 +1,25 @@
 //! The two builds of the receiver, and what a call to one of them gives.
 //!
-//! Both are given copies of one record; where a request changes the length or
-//! the layout of records, another way of giving both the same state is needed
-//! here, such as a record of each build that the same accepted routings opened.
+//! Both are given copies of one record and of one assembly slice. A build from
+//! before request C-12 gets the meters and the channels of it, which have had
+//! one layout since. Where a request changes that, another way of giving both
+//! the same state is needed here, such as a record of each build that the same
+//! accepted routings opened.
 
-use crate::calls::{self, Outcome, Receiver};
+use crate::calls::{self, Outcome, Receiver, Span};
 use crate::earlier;
-use crate::lent::{Record, Slices};
+use crate::lent::{Lengths, Record, Slices};
 use decoder::chunk::Lent;
 use decoder::receiver::Reply;
 
-/// The calls of one build: start and message by value, and in place.
+/// The calls of one build: start and message by value and in place, and the
+/// data section.
 struct Build {
     start: fn([u64; 3]) -> Outcome,
     message: fn(&Receiver, &[u8], &mut Slices) -> Outcome,
     begin: fn(&mut Record, [u64; 3]) -> Reply,
     offer: fn(&mut Record, &[u8], &mut Slices) -> Reply,
+    section: fn(&[u8]) -> Span,
 }
 
 /// The earlier build, then the present one.
@@ -25,22 +29,24 @@ const BUILDS: [Build; 2] = [
         message: earlier::message,
         begin: earlier::begin,
         offer: earlier::offer,
+        section: earlier::data_section,
     },
     Build {
         start: calls::start,
-        message: |receiver, octets, lent| {
-            calls::message(receiver, octets, lent.rows.slice(), lent.levels.slice())
-        },
+        message: |receiver, octets, lent| lent.message(receiver, octets),
         begin: Record::begin,
         offer: Record::offer,
+        section: calls::data_section,
     },
 ];
 
-/// What a call gave: the reply, and the record and the slices after it.
+/// What a call gave: the reply, and the record and the slices after it; and
+/// where the data section of the message stands.
 pub struct Given {
     pub reply: Reply,
     pub record: Record,
     pub slices: Slices,
+    pub section: Span,
 }
 
 /// What one build gave for the same start or message in each of the two ways.
@@ -51,21 +57,29 @@ pub struct Ways {
 
 impl Build {
     fn start(&self, readings: [u64; 3]) -> Ways {
-        let none = Slices::new(Lent { rows: 0, levels: 0 }, 0);
+        let lent = Lent {
+            rows: 0,
+            levels: 0,
+            assembly: 0,
+        };
+        let none = Slices::new(lent, 0);
+        let section = (self.section)(&[]);
         let started = (self.start)(readings);
         let value = &started.receiver;
         // What the record held before must not matter.
-        let mut record = Record::new(value.channels.len(), value.meters.len());
+        let mut record = Record::new(Lengths::RECORD);
         Ways {
             in_place: Given {
                 reply: (self.begin)(&mut record, readings),
                 record,
                 slices: none.clone(),
+                section,
             },
             by_value: Given {
                 reply: started.reply.own(),
                 record: Record::of(value),
                 slices: none,
+                section,
             },
         }
     }
@@ -73,28 +87,35 @@ impl Build {
     fn offer(&self, record: &Receiver, octets: &[u8], lent: &Slices) -> Ways {
         let (mut first, mut second) = (lent.clone(), lent.clone());
         let mut in_place = Record::of(record);
+        let section = (self.section)(octets);
         let next = (self.message)(record, octets, &mut second);
         Ways {
             in_place: Given {
                 reply: (self.offer)(&mut in_place, octets, &mut first),
                 record: in_place,
                 slices: first,
+                section,
             },
             by_value: Given {
                 reply: next.reply.own(),
                 record: Record::of(&next.receiver),
                 slices: second,
+                section,
             },
         }
     }
 }
 
 impl Ways {
-    /// Puts the record that the call in place left into `record`.
-    pub fn hand_on(&self, record: &mut Receiver) {
+    /// Puts the record and the assembly slice that the call in place left into
+    /// `record` and at the start of `assembly`.
+    pub fn hand_on(&self, record: &mut Receiver, assembly: &mut [u8]) {
         let left = &self.in_place.record;
         record.channels.copy_from_slice(left.channels.read());
         record.meters.copy_from_slice(left.meters.read());
+        record.gathered.copy_from_slice(left.gathered.read());
+        let octets = self.in_place.slices.assembly.read();
+        assembly[..octets.len()].copy_from_slice(octets);
     }
 }
 
@@ -104,11 +125,13 @@ pub fn are_two() -> bool {
     pairs.all(|(before, now)| before != now)
 }
 
-/// True if the earlier build takes a record of the present lengths; it gives
-/// number 1 for others.
+/// True if the earlier build takes a record of the present lengths, in the form
+/// of its calls that was found: it gives number 1 for others, and in another
+/// form it sets other readings.
 pub fn records_alike() -> bool {
-    let mut record = Record::of(&calls::start([0; 3]).receiver);
-    earlier::begin(&mut record, [0; 3]).number == 0
+    let mut record = Record::new(Lengths::RECORD);
+    let readings = [5, 6, 7];
+    earlier::begin(&mut record, readings).number == 0 && record.meters.read() == readings
 }
 
 /// Starts both.

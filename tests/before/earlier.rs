@@ -1,115 +1,28 @@
 //! The calls of the earlier archive, of which each name has `before_` in front.
 //! They are declared here and not in tests/calls.rs, because a request may
 //! change a call, and the earlier one then keeps the form that it has here.
+//! tests/before/run finds out which form that is.
 
-use crate::calls::{Outcome, Receiver};
-use crate::lent::{Record, Slices};
-use decoder::receiver::Reply;
+#[cfg_attr(without_fragments, path = "without_fragments.rs")]
+#[cfg_attr(not(without_fragments), path = "with_fragments.rs")]
+mod form;
 
-mod named {
-    use crate::calls::{Outcome, Receiver, Reply};
+pub use form::{begin, message, offer, start};
 
-    extern "C" {
-        pub fn before_mewkoast_start(lit_time: u64, points: u64, lit_points: u64) -> Outcome;
-        pub fn before_mewkoast_message(
-            receiver: Receiver,
-            octets: *const u8,
-            length: usize,
-            rows: *mut i32,
-            rows_length: usize,
-            levels: *mut u8,
-            levels_length: usize,
-        ) -> Outcome;
-        pub fn before_mewkoast_begin_on(
-            channels: *mut u8,
-            channels_length: usize,
-            meters: *mut u64,
-            meters_length: usize,
-            lit_time: u64,
-            points: u64,
-            lit_points: u64,
-        ) -> Reply;
-        pub fn before_mewkoast_offer_on(
-            channels: *mut u8,
-            channels_length: usize,
-            meters: *mut u64,
-            meters_length: usize,
-            octets: *const u8,
-            length: usize,
-            rows: *mut i32,
-            rows_length: usize,
-            levels: *mut u8,
-            levels_length: usize,
-        ) -> Reply;
-    }
+use crate::calls::Span;
+
+extern "C" {
+    fn before_mewkoast_data_section(octets: *const u8, length: usize) -> Span;
 }
 
-/// Where the code of the calls below stands, in the order of
-/// `calls::addresses`.
-pub fn addresses() -> [*const (); 4] {
-    [
-        named::before_mewkoast_start as *const (),
-        named::before_mewkoast_message as *const (),
-        named::before_mewkoast_begin_on as *const (),
-        named::before_mewkoast_offer_on as *const (),
-    ]
+/// Where the code of the calls stands, in the order of `calls::addresses`.
+pub fn addresses() -> [*const (); 5] {
+    let [start, message, begin, offer] = form::addresses();
+    let section = before_mewkoast_data_section as *const ();
+    [start, message, begin, offer, section]
 }
 
-// SAFETY, of each call below: the pointers and lengths are those of slices,
-// and a slice that is written is borrowed alone. A record by value has the
-// length that the earlier build knows: `builds::records_alike` is asked first.
-
-pub fn start([lit_time, points, lit_points]: [u64; 3]) -> Outcome {
-    unsafe { named::before_mewkoast_start(lit_time, points, lit_points) }
-}
-
-pub fn message(receiver: &Receiver, octets: &[u8], lent: &mut Slices) -> Outcome {
-    let (rows, levels) = (lent.rows.slice(), lent.levels.slice());
-    unsafe {
-        named::before_mewkoast_message(
-            *receiver,
-            octets.as_ptr(),
-            octets.len(),
-            rows.as_mut_ptr(),
-            rows.len(),
-            levels.as_mut_ptr(),
-            levels.len(),
-        )
-    }
-}
-
-pub fn begin(record: &mut Record, [lit_time, points, lit_points]: [u64; 3]) -> Reply {
-    let (channels, meters) = (record.channels.slice(), record.meters.slice());
-    let reply = unsafe {
-        named::before_mewkoast_begin_on(
-            channels.as_mut_ptr(),
-            channels.len(),
-            meters.as_mut_ptr(),
-            meters.len(),
-            lit_time,
-            points,
-            lit_points,
-        )
-    };
-    reply.own()
-}
-
-pub fn offer(record: &mut Record, octets: &[u8], lent: &mut Slices) -> Reply {
-    let (channels, meters) = (record.channels.slice(), record.meters.slice());
-    let (rows, levels) = (lent.rows.slice(), lent.levels.slice());
-    let reply = unsafe {
-        named::before_mewkoast_offer_on(
-            channels.as_mut_ptr(),
-            channels.len(),
-            meters.as_mut_ptr(),
-            meters.len(),
-            octets.as_ptr(),
-            octets.len(),
-            rows.as_mut_ptr(),
-            rows.len(),
-            levels.as_mut_ptr(),
-            levels.len(),
-        )
-    };
-    reply.own()
+pub fn data_section(octets: &[u8]) -> Span {
+    // SAFETY: the pointer and the length are those of a slice.
+    unsafe { before_mewkoast_data_section(octets.as_ptr(), octets.len()) }
 }

@@ -1,13 +1,16 @@
 //! In what the two builds differ on one start or message.
 
 use crate::builds::Given;
+use decoder::message::SEQUEL;
+use decoder::receiver::Reply;
 
 /// Differences that are counted together.
 #[derive(Clone, PartialEq, Eq, PartialOrd, Ord)]
 pub struct Kind {
     /// The numbers of the replies: of the earlier build, of the present one.
     pub numbers: [u32; 2],
-    /// "start", or the chunk type of the message and whether it routes.
+    /// "start", or the chunk type of the message and whether it routes, or is
+    /// marked as the last.
     pub offered: String,
     /// Where both accepted: by how much the lit points grew.
     pub lit: Option<i64>,
@@ -33,14 +36,35 @@ impl Kind {
     }
 }
 
-/// The names of what differs: fields of the reply under their names in
-/// include/mewkoast.h, the slices, the three meters, the octets of the
-/// channels. The margins of slices and channels count as a part of them.
+/// The names of what differs: fields of the reply, the slices, the arrays of the
+/// record and the data section. The margins of slices and arrays count as a part
+/// of them.
 fn parts(before: &Given, now: &Given) -> Vec<&'static str> {
-    let (old, new) = (&before.reply, &now.reply);
-    let [meters, after] = [before, now].map(|given| given.record.meters.read());
-    let compared = [
-        ("number", old.number != new.number),
+    let mut parts = of_reply(&before.reply, &now.reply);
+    let (old, new) = (&before.slices, &now.slices);
+    let (record, after) = (&before.record, &now.record);
+    let (meters, risen) = (record.meters.read(), after.meters.read());
+    parts.extend(named([
+        ("rows", old.rows != new.rows),
+        ("levels slice", old.levels != new.levels),
+        ("assembly slice", old.assembly != new.assembly),
+        ("meter lit_time", meters[0] != risen[0]),
+        ("meter points", meters[1] != risen[1]),
+        ("meter lit_points", meters[2] != risen[2]),
+        ("gathered", record.gathered != after.gathered),
+        ("channel octets", record.channels != after.channels),
+        ("data section", before.section != now.section),
+    ]));
+    parts
+}
+
+/// Fields of the reply under their names in include/mewkoast.h. Where the
+/// numbers differ the number alone: one of the two refuses, with 0 in the rest.
+fn of_reply(old: &Reply, new: &Reply) -> Vec<&'static str> {
+    if old.number != new.number {
+        return vec!["number"];
+    }
+    named([
         ("channel", old.channel != new.channel),
         ("chunk_type", old.kind != new.kind),
         ("timestamp", old.timestamp != new.timestamp),
@@ -48,26 +72,24 @@ fn parts(before: &Given, now: &Given) -> Vec<&'static str> {
         ("points", old.points != new.points),
         ("lit_points", old.lit_points != new.lit_points),
         ("levels", old.levels != new.levels),
-        ("rows", before.slices.rows != now.slices.rows),
-        ("levels slice", before.slices.levels != now.slices.levels),
-        ("meter lit_time", meters[0] != after[0]),
-        ("meter points", meters[1] != after[1]),
-        ("meter lit_points", meters[2] != after[2]),
-        (
-            "channel octets",
-            before.record.channels != now.record.channels,
-        ),
-    ];
+    ])
+}
+
+/// The names with which something differs.
+fn named<const N: usize>(compared: [(&'static str, bool); N]) -> Vec<&'static str> {
     let different = compared.into_iter().filter(|(_, differs)| *differs);
     different.map(|(name, _)| name).collect()
 }
 
 /// Document 01, "One message": octet 3 is the type, CCLF is in octet 2, and
-/// Routing is the last bit of octet 9. The octets are read as they stand, since
-/// a message that is refused has them too.
+/// Routing is the last bit of octet 9. Request C-12: a sequel never routes, and
+/// its CCLF marks the last. The octets are read as they stand, since a message
+/// that is refused has them too.
 fn offered(octets: &[u8]) -> String {
     let bit = |place: usize, mask: u8| octets.get(place).is_some_and(|octet| octet & mask != 0);
     match octets.get(3) {
+        Some(&SEQUEL) if bit(2, 0x40) => "type C0, last".to_string(),
+        Some(&SEQUEL) => "type C0".to_string(),
         Some(kind) if bit(2, 0x40) && bit(9, 0x01) => format!("type {kind:02X}, routes"),
         Some(kind) => format!("type {kind:02X}"),
         None => "no type".to_string(),

@@ -5,8 +5,9 @@
 //! usage: before_compare [COUNT]
 //!
 //! COUNT messages are offered, 200,000 if not given. Each goes to copies of the
-//! record that the present receiver left, so that one difference does not make
-//! the next. The exit status is 0 where the run was made, whatever differed.
+//! record and the assembly slice that the present receiver left, so that one
+//! difference does not make the next. The exit status is 0 where the run was
+//! made, whatever differed.
 
 mod builds;
 mod earlier;
@@ -21,6 +22,7 @@ mod calls;
 #[path = "../receiver/lent.rs"]
 mod lent;
 
+use generate::assembly::LONGEST as BUFFER;
 use generate::random::Random;
 use generate::stream::{stream, Stream};
 use lent::Slices;
@@ -47,7 +49,7 @@ fn main() -> ExitCode {
         return ExitCode::FAILURE;
     }
     if !builds::records_alike() {
-        eprintln!("the earlier build takes no record of the present lengths");
+        eprintln!("the earlier build takes no record of the present lengths, or has other calls");
         return ExitCode::FAILURE;
     }
     run(count).print();
@@ -66,15 +68,17 @@ fn run(count: usize) -> Table {
     table
 }
 
-/// One stream, from the start on.
+/// One stream, from the start on. The assembly slice is a part of one buffer.
 fn compare(stream: &Stream, number: usize, table: &mut Table) {
     let mut record = calls::start(stream.start).receiver;
+    let mut buffer = vec![0x5A; BUFFER];
     table.start(&builds::start(stream.start), number);
     for (place, offer) in stream.offers.iter().enumerate() {
         let salt = 0x9E37_79B1u32.wrapping_mul(table.messages as u32 | 1);
-        let lent = Slices::new(offer.lent, salt);
+        let assembly = &mut buffer[..offer.lent.assembly];
+        let lent = Slices::assembling(offer.lent, salt, assembly);
         let ways = builds::offer(&record, &offer.octets, &lent);
         table.message(&ways, &offer.octets, number, place);
-        ways[1].hand_on(&mut record);
+        ways[1].hand_on(&mut record, assembly);
     }
 }

@@ -1,9 +1,9 @@
 //! The data section under a governing configuration: document 01, "Chunks"
-//! and checks 17 to 22, and request C-11.
+//! and checks 17 to 22, and requests C-11 and C-12.
 
 use crate::dictionary::Layout;
 use crate::dimmer::{self, Map, PLACES};
-use crate::message::{FRAME, LEVELS, VOID, WAVE};
+use crate::message::{FIRST, FRAME, LEVELS, VOID, WAVE};
 use crate::route::{Governing, Tags};
 use crate::rows::{lit_points, points, row, Row};
 
@@ -12,6 +12,7 @@ use crate::rows::{lit_points, points, row, Row};
 pub struct Lent {
     pub rows: usize,
     pub levels: usize,
+    pub assembly: usize,
 }
 
 /// What a data section that passed checks 17 to 22 holds.
@@ -67,24 +68,27 @@ impl Content {
     }
 }
 
-/// Checks 17 to 22.
+/// Checks 17 to 22 of a chunk that is whole.
 pub fn read(governing: &Governing, kind: u8, data: &[u8], lent: Lent) -> Result<Content, u32> {
+    begin(governing, kind, data)?;
+    whole(governing, kind, data, lent)
+}
+
+/// Checks 17 to 19, which a first fragment goes through like a chunk that is
+/// whole: "The first message carries the chunk header [...]; checks 17 to 19
+/// run on it."
+pub fn begin(governing: &Governing, kind: u8, data: &[u8]) -> Result<(), u32> {
     // "Mode 0 skips 8 to 14 and 17 to 22".
     if governing.mode == 0 {
-        return Ok(Content::Nothing);
+        return Ok(());
     }
     // "The type does not go with the mode; 0x00 goes with all."
     if !type_goes(kind, governing.mode) {
         return Err(17);
     }
-    // "A Void chunk has data, or another has under 4 octets"; "a Void chunk
-    // that passes 18 skips 19 to 22".
+    // "A Void chunk has data, or another has under 4 octets".
     if kind == VOID {
-        return if data.is_empty() {
-            Ok(Content::Nothing)
-        } else {
-            Err(18)
-        };
+        return if data.is_empty() { Ok(()) } else { Err(18) };
     }
     if data.len() < 4 {
         return Err(18);
@@ -94,19 +98,32 @@ pub fn read(governing: &Governing, kind: u8, data: &[u8], lent: Lent) -> Result<
     if data[0] >> 4 & 3 != governing.sdm {
         return Err(19);
     }
-    let (header, body) = data.split_at(4);
+    Ok(())
+}
+
+/// Checks 20 to 22 of a chunk that is whole and passed 17 to 19, or of a frame
+/// whose first fragment did.
+pub fn whole(governing: &Governing, kind: u8, data: &[u8], lent: Lent) -> Result<Content, u32> {
+    // "a Void chunk that passes 18 skips 19 to 22".
+    if kind == VOID {
+        return Ok(Content::Nothing);
+    }
     match &governing.tags {
-        Tags::Graphic(layout) => samples(layout, kind, header, body, lent),
-        Tags::Dimmer(map) => levels(map, governing.mode, body, lent),
+        Tags::Graphic(layout) => {
+            let (header, body) = data.split_at(4);
+            samples(layout, kind, header, body, lent)
+        }
+        Tags::Dimmer(map) => levels(map, governing.mode, &data[4..], lent),
         Tags::Ignored => Ok(Content::Nothing),
     }
 }
 
-/// Document 01, "Chunks": the modes of each type.
+/// Document 01, "Chunks": the modes of each type. Request C-12: both types of
+/// fragments "go with mode 2"; check 17 passes the sequels by.
 fn type_goes(kind: u8, mode: u8) -> bool {
     match kind {
         WAVE => mode == 1,
-        FRAME => mode == 2,
+        FRAME | FIRST => mode == 2,
         LEVELS => mode == 4 || mode == 6,
         _ => kind == VOID,
     }

@@ -44,7 +44,7 @@ fn all(start: [u64; 3], messages: &[Vec<u8>]) -> (Vec<Given>, [u64; 3]) {
     let verdicts = verdicts(start, &offered(messages));
     let mut given = Vec::new();
     for (octets, verdict) in messages.iter().zip(&verdicts) {
-        let reply = receiver.message(octets, &mut [0; 480], &mut []);
+        let reply = receiver.message(octets, &mut [0; 480], &mut [], &mut []);
         assert_eq!(reply.number, verdict.number);
         given.push((reply.number, reply.points, reply.lit_points));
     }

@@ -47,6 +47,7 @@ pub fn offered<'a>(messages: impl IntoIterator<Item = &'a Vec<u8>>) -> Vec<Offer
     let lent = Lent {
         rows: 480,
         levels: 0,
+        assembly: 0,
     };
     messages
         .into_iter()

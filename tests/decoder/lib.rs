@@ -1,22 +1,37 @@
-//! A second decoder, written from document 01, request C-11 of document 02 and
-//! source document 003 alone. The tests compare the proved functions with it.
-//! What generates messages for the comparisons is in tests/generate.
+//! A second decoder, written from document 01, requests C-11 and C-12 of
+//! document 02 and source document 003 alone. The tests compare the proved
+//! functions with it. What generates messages for the comparisons is in
+//! tests/generate.
 
 pub mod chunk;
 pub mod dictionary;
 pub mod dimmer;
+pub mod gathering;
 pub mod listing;
 pub mod lookback;
 pub mod message;
 pub mod receiver;
 pub mod route;
 pub mod rows;
+mod split;
 
 // The paper's bench table, and more cases worked out by hand.
 #[cfg(test)]
 mod edges;
 #[cfg(test)]
 mod first_point;
+#[cfg(test)]
+mod fragment_cuts;
+#[cfg(test)]
+mod fragment_drops;
+#[cfg(test)]
+mod fragment_edges;
+#[cfg(test)]
+mod fragment_ends;
+#[cfg(test)]
+mod fragment_list;
+#[cfg(test)]
+mod fragment_slices;
 #[cfg(test)]
 mod history;
 #[cfg(test)]

@@ -1,5 +1,5 @@
 //! The listing program's text: document 01, "Calls and layers", "The listing
-//! program reads messages end to end from standard input".
+//! program reads messages end to end from standard input", and request C-12.
 
 use crate::receiver::{Receiver, Reply};
 
@@ -7,12 +7,16 @@ use crate::receiver::{Receiver, Reply};
 const NUMBERS: usize = 12_000;
 const OCTETS: usize = 1_024;
 
+/// Request C-12: "the listing lends 65,536 octets".
+const ASSEMBLY: usize = 65_536;
+
 /// What the program prints for an input.
 pub fn listing(input: &[u8]) -> String {
     // "starts at 0 0 0".
     let (mut receiver, _) = Receiver::start(0, 0, 0);
     let mut rows = vec![0; NUMBERS];
     let mut levels = vec![0; OCTETS];
+    let mut assembly = vec![0; ASSEMBLY];
     let mut text = String::new();
     let mut rest = input;
     while !rest.is_empty() {
@@ -23,7 +27,7 @@ pub fn listing(input: &[u8]) -> String {
             break;
         };
         let (octets, after) = rest.split_at(size);
-        text += &line(&receiver.message(octets, &mut rows, &mut levels));
+        text += &line(&receiver.message(octets, &mut rows, &mut levels, &mut assembly));
         rest = after;
     }
     // "then "meters" and the readings".

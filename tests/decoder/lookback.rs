@@ -1,9 +1,11 @@
-//! The look-back rule: document 01, "Meters and the look-back rule". Nothing
-//! is kept from message to message but the list itself and the numbers and
-//! additions already worked out for its earlier messages.
+//! The look-back rule: document 01, "Meters and the look-back rule", and
+//! request C-12: "Where the host lends the assembly slice unaltered and at one
+//! length for as long as a frame is gathered, demand 3 holds with split frames
+//! too". Nothing is kept from message to message but the list itself and the
+//! numbers and additions already worked out for its earlier messages.
 
-use crate::chunk::{self, Lent};
-use crate::message::{self, Channel, Message};
+use crate::chunk::{self, Content, Lent};
+use crate::message::{self, Channel, Message, FIRST, SEQUEL};
 use crate::receiver::LIMIT;
 use crate::route::{self, Governing};
 
@@ -58,25 +60,41 @@ pub fn sums(start: [u64; 3], verdicts: &[Verdict]) -> [u64; 3] {
 }
 
 /// The messages before the one in question.
-struct Past<'a> {
+#[derive(Clone, Copy)]
+pub(crate) struct Past<'a> {
     start: [u64; 3],
-    list: &'a [Offered<'a>],
-    verdicts: &'a [Verdict],
+    pub list: &'a [Offered<'a>],
+    pub verdicts: &'a [Verdict],
 }
 
-impl Past<'_> {
+impl<'a> Past<'a> {
     /// "Acceptance follows the checks below with the running sums of the
     /// list": what the message adds, or the number that refuses it.
     fn adds(&self, offered: &Offered) -> Result<[u64; 3], u32> {
         let message = message::read(offered.octets)?;
         let governing = self.governing(&message)?;
-        let content = chunk::read(&governing, message.kind, message.data, offered.lent)?;
-        let adds = content.adds();
+        let adds = self.content(&message, &governing, offered.lent)?.adds();
         let before = sums(self.start, self.verdicts);
         if (0..3).any(|meter| before[meter] + adds[meter] > LIMIT) {
             return Err(23);
         }
         Ok(adds)
+    }
+
+    /// Checks 17 to 22 and 24 to 26.
+    fn content(
+        &self,
+        message: &Message,
+        governing: &Governing,
+        lent: Lent,
+    ) -> Result<Content, u32> {
+        match message.kind {
+            // "in mode 0 they are accepted, past 24 to 26, and ignored".
+            FIRST | SEQUEL if governing.mode == 0 => Ok(Content::Nothing),
+            FIRST => self.first(message, governing, lent),
+            SEQUEL => self.sequel(message, governing, lent),
+            kind => chunk::read(governing, kind, message.data, lent),
+        }
     }
 
     /// "a message with Routing is governed by itself", with checks 6 to 15;
@@ -106,7 +124,7 @@ impl Past<'_> {
     /// "If that one was accepted with Routing and without Close, its mode,
     /// service, SDM and tags govern; in all other cases the channel is
     /// closed."
-    fn in_force(&self, channel: Channel) -> Option<Governing> {
+    pub fn in_force(&self, channel: Channel) -> Option<Governing> {
         let (message, number) = self.latest(channel)?;
         match message.routing {
             Some(routing) if number == 0 && !message.close => route::check(&routing).ok(),
@@ -116,7 +134,7 @@ impl Past<'_> {
 
     /// "the latest earlier message on its channel that was accepted with
     /// Routing, accepted with Close, or refused by 19", with its number.
-    fn latest(&self, channel: Channel) -> Option<(Message<'_>, u32)> {
+    fn latest(&self, channel: Channel) -> Option<(Message<'a>, u32)> {
         let decides = |message: &Message, number: u32| match number {
             0 => message.routing.is_some() || message.close,
             _ => number == 19,
@@ -129,5 +147,14 @@ impl Past<'_> {
                 Some((message::read(offered.octets).ok()?, verdict.number))
             })
             .find(|(message, number)| message.channel == channel && decides(message, *number))
+    }
+
+    /// The messages before a place of the list.
+    pub fn before(&self, place: usize) -> Past<'a> {
+        Past {
+            list: &self.list[..place],
+            verdicts: &self.verdicts[..place],
+            ..*self
+        }
     }
 }

@@ -1,10 +1,15 @@
-//! The parts of a message: document 01, "One message" and checks 2 to 5.
+//! The parts of a message: document 01, "One message" and checks 2 to 5, and
+//! request C-12.
 
 pub use crate::rows::{FRAME, WAVE};
 
 /// Document 01, "Chunks": the other chunk types.
 pub const VOID: u8 = 0x00;
 pub const LEVELS: u8 = 0x18;
+
+/// Request C-12: "Large frames come as type 0x03 and then 0xC0".
+pub const FIRST: u8 = 0x03;
+pub const SEQUEL: u8 = 0xC0;
 
 /// Check 2: the most octets of a message.
 pub const MOST: usize = 65_280;
@@ -35,6 +40,8 @@ pub struct Message<'a> {
     pub timestamp: u32,
     pub close: bool,
     pub routing: Option<Routing<'a>>,
+    /// A sequel with the mark of the last; no other message has it.
+    pub last: bool,
     pub data: &'a [u8],
 }
 
@@ -49,8 +56,9 @@ pub fn read(octets: &[u8]) -> Result<Message<'_>, u32> {
     if octets[2] & 0x80 == 0 {
         return Err(3);
     }
-    // "The type is not 0x00, 0x01, 0x02 or 0x18."
-    if !matches!(octets[3], VOID | WAVE | FRAME | LEVELS) {
+    // "The type is not 0x00, 0x01, 0x02 or 0x18"; request C-12: "Check 4 lets
+    // both types in".
+    if !matches!(octets[3], VOID | WAVE | FRAME | LEVELS | FIRST | SEQUEL) {
         return Err(4);
     }
     let mut message = Message {
@@ -59,11 +67,18 @@ pub fn read(octets: &[u8]) -> Result<Message<'_>, u32> {
         timestamp: u32::from_be_bytes([octets[4], octets[5], octets[6], octets[7]]),
         close: false,
         routing: None,
+        last: false,
         data: &octets[8..],
     };
-    // "octet 2: top bit 1, then CCLF (configuration present)"; "without CCLF
-    // it starts at octet 8".
-    if octets[2] & 0x40 != 0 {
+    let cclf = octets[2] & 0x40 != 0;
+    if message.kind == SEQUEL {
+        // "Sequels carry bare octets from octet 8, [...] and CCLF as the mark
+        // of the last. A sequel never routes or closes, and checks 5 [...]
+        // pass it by."
+        message.last = cclf;
+    } else if cclf {
+        // "octet 2: top bit 1, then CCLF (configuration present)"; "without
+        // CCLF it starts at octet 8".
         configure(&mut message, octets)?;
     }
     Ok(message)

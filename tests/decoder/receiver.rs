@@ -1,10 +1,12 @@
 //! The receiver: document 01, "Checks, in order", "Meters and the look-back
-//! rule" and "Calls and layers". Check 1 cannot occur in it, because nothing
-//! but its own functions changes a receiver.
+//! rule" and "Calls and layers", and request C-12. Check 1 cannot occur in it,
+//! because nothing but its own functions changes a receiver.
 
 use crate::chunk::{self, Content, Lent};
 use crate::dimmer::{self, PLACES};
-use crate::message::{self, Channel, Message};
+use crate::gathering::room;
+pub use crate::gathering::Gathering;
+use crate::message::{self, Channel, Message, FIRST, FRAME, SEQUEL};
 use crate::route::{self, Governing, Tags};
 
 /// "Each is limited to 36,000,000,000,000,000 (ten million hours)."
@@ -53,6 +55,25 @@ pub struct Receiver {
     channels: Vec<Option<Governing>>,
     /// Lit microseconds, points, lit points.
     meters: [u64; 3],
+    /// "One frame at a time is gathered".
+    gathering: Option<Gathering>,
+}
+
+/// The slices lent with one message.
+struct Slices<'a> {
+    rows: &'a mut [i32],
+    levels: &'a mut [u8],
+    assembly: &'a mut [u8],
+}
+
+impl Slices<'_> {
+    fn lengths(&self) -> Lent {
+        Lent {
+            rows: self.rows.len(),
+            levels: self.levels.len(),
+            assembly: self.assembly.len(),
+        }
+    }
 }
 
 impl Receiver {
@@ -65,6 +86,7 @@ impl Receiver {
         let receiver = Receiver {
             channels: vec![None; 64],
             meters: if above { [0; 3] } else { given },
+            gathering: None,
         };
         (receiver, Reply::refused(if above { 23 } else { 0 }))
     }
@@ -79,36 +101,145 @@ impl Receiver {
         self.channels[usize::from(channel.0)].as_ref()
     }
 
-    /// Checks 2 to 23 of one message, and what it does.
-    pub fn message(&mut self, octets: &[u8], rows: &mut [i32], levels: &mut [u8]) -> Reply {
-        match self.offer(octets, rows, levels) {
+    /// What is kept of the frame being gathered; none if there is none.
+    pub fn gathering(&self) -> Option<Gathering> {
+        self.gathering
+    }
+
+    /// Checks 2 to 26 of one message, and what it does.
+    pub fn message(
+        &mut self,
+        octets: &[u8],
+        rows: &mut [i32],
+        levels: &mut [u8],
+        assembly: &mut [u8],
+    ) -> Reply {
+        let mut slices = Slices {
+            rows,
+            levels,
+            assembly,
+        };
+        match self.offer(octets, &mut slices) {
             Ok(reply) => reply,
             Err(number) => Reply::refused(number),
         }
     }
 
-    fn offer(&mut self, octets: &[u8], rows: &mut [i32], levels: &mut [u8]) -> Result<Reply, u32> {
+    fn offer(&mut self, octets: &[u8], slices: &mut Slices) -> Result<Reply, u32> {
         let message = message::read(octets)?;
-        let place = usize::from(message.channel.0);
         let governing = self.governed(&message)?;
-        let lent = Lent {
-            rows: rows.len(),
-            levels: levels.len(),
+        let content = match message.kind {
+            // "in mode 0 they are accepted, past 24 to 26, and ignored".
+            FIRST | SEQUEL if governing.mode == 0 => Content::Nothing,
+            FIRST => self.first(&message, &governing, slices)?,
+            SEQUEL => self.sequel(&message, &governing, slices)?,
+            _ => self.chunk(&message, &governing, slices)?,
         };
-        let read = chunk::read(&governing, message.kind, message.data, lent);
-        // "A refusal changes no record, meter or slice; only 19 closes the
-        // channel."
-        if read == Err(19) {
-            self.channels[place] = None;
-        }
-        let content = read?;
         self.meters = added(self.meters, content.adds()).ok_or(23u32)?;
-        write(&governing, &content, rows, levels);
+        write(&governing, &content, slices.rows, slices.levels);
         let reply = Reply::accepted(&message, &governing, &content);
+        self.accept(&message, governing, slices.assembly);
+        Ok(reply)
+    }
+
+    /// Checks 17 to 22 of a chunk in one message.
+    fn chunk(
+        &mut self,
+        message: &Message,
+        governing: &Governing,
+        slices: &Slices,
+    ) -> Result<Content, u32> {
+        self.begin(message, governing)?;
+        chunk::whole(governing, message.kind, message.data, slices.lengths())
+    }
+
+    /// Checks 17 to 19 and 26 of a first fragment.
+    fn first(
+        &mut self,
+        message: &Message,
+        governing: &Governing,
+        slices: &Slices,
+    ) -> Result<Content, u32> {
+        self.begin(message, governing)?;
+        self.room(message.data.len(), slices)?;
+        Ok(Content::Nothing)
+    }
+
+    /// Checks 24 to 26 of a sequel and, if it is the last, 20 to 22 of the
+    /// whole, read from the assembly slice.
+    fn sequel(
+        &mut self,
+        message: &Message,
+        governing: &Governing,
+        slices: &mut Slices,
+    ) -> Result<Content, u32> {
+        let held = self.gathering.filter(|held| held.is_on(message.channel));
+        // "24 a sequel with no gathering on its channel, 25 a wrong timestamp,
+        // which drops the gathering".
+        let held = held.ok_or(24u32)?;
+        if message.timestamp != held.due() {
+            self.gathering = None;
+            return Err(25);
+        }
+        self.room(held.octets + message.data.len(), slices)?;
+        let now = held.and(message, slices.assembly);
+        if !message.last {
+            self.gathering = Some(now);
+            return Ok(Content::Nothing);
+        }
+        // "After the last fragment the whole is checked by 20 to 23 and drawn
+        // as 0x02; accepted or refused by those checks, it is then gathered no
+        // longer, but its octets stay written."
+        self.gathering = None;
+        let frame = &slices.assembly[..now.octets];
+        chunk::whole(governing, FRAME, frame, slices.lengths())
+    }
+
+    /// Checks 17 to 19.
+    fn begin(&mut self, message: &Message, governing: &Governing) -> Result<(), u32> {
+        let begun = chunk::begin(governing, message.kind, message.data);
+        // "A refusal changes no record, meter or slice; only 19 closes the
+        // channel"; request C-12: "on that channel [...] a refusal 19, drops
+        // what was gathered".
+        if begun == Err(19) {
+            self.channels[usize::from(message.channel.0)] = None;
+            self.drop_on(message.channel);
+        }
+        begun
+    }
+
+    /// Check 26, "which drops any gathering".
+    fn room(&mut self, so_far: usize, slices: &Slices) -> Result<(), u32> {
+        let room = room(so_far, slices.assembly.len());
+        if room.is_err() {
+            self.gathering = None;
+        }
+        room
+    }
+
+    /// What an accepted message makes of its channel and of the gathering. The
+    /// order lets a first fragment with Routing begin a gathering, and lets
+    /// Close drop the one that its own first fragment began.
+    fn accept(&mut self, message: &Message, governing: Governing, assembly: &mut [u8]) {
+        // "on that channel an accepted routing or close [...] drops what was
+        // gathered; dropping writes no octet".
+        if message.routing.is_some() {
+            self.drop_on(message.channel);
+        }
+        // "A first fragment accepted in mode 2 [...] drops what was gathered".
+        if message.kind == FIRST && governing.mode == 2 {
+            self.gathering = Some(Gathering::begin(message, assembly));
+        }
         // "Routing an open channel replaces its configuration. Close acts
         // after the message."
-        self.channels[place] = (!message.close).then_some(governing);
-        Ok(reply)
+        if message.close {
+            self.drop_on(message.channel);
+        }
+        self.channels[usize::from(message.channel.0)] = (!message.close).then_some(governing);
+    }
+
+    fn drop_on(&mut self, channel: Channel) {
+        self.gathering = self.gathering.filter(|held| !held.is_on(channel));
     }
 
     /// Checks 6 to 16: what governs the message.

@@ -163,7 +163,7 @@ fn void_chunks() {
     assert_eq!(host.number(&octets("000B850200000000 30FFFF")), 18);
     assert_eq!(host.number(&octets("0009850000000000 30")), 18);
     let void = octets("0008850000000007");
-    let reply = host.receiver.message(&void, &mut [], &mut []);
+    let reply = host.receiver.message(&void, &mut [], &mut [], &mut []);
     assert_eq!((reply.number, reply.channel, reply.timestamp), (0, 5, 7));
 }
 
@@ -174,17 +174,19 @@ fn slices_lent() {
     let (mut receiver, _) = Receiver::start(0, 0, 0);
     let frame = octets(FRAME_OF_TWO);
     let mut rows = [3; 48];
-    let reply = receiver.message(&frame, &mut rows[..47], &mut []);
+    let reply = receiver.message(&frame, &mut rows[..47], &mut [], &mut []);
     assert_eq!((reply.number, rows), (22, [3; 48]));
-    assert_eq!(receiver.message(&frame, &mut rows, &mut []).number, 0);
+    let reply = receiver.message(&frame, &mut rows, &mut [], &mut []);
+    assert_eq!(reply.number, 0);
     let dropped = routed(0x18, 1, 4, "42 FF FF", &[1; 600]);
     let mut levels = [3; 1025];
-    let reply = receiver.message(&dropped, &mut [], &mut levels[..1023]);
+    let reply = receiver.message(&dropped, &mut [], &mut levels[..1023], &mut []);
     assert_eq!(reply.number, 22);
-    let reply = receiver.message(&dropped, &mut [], &mut levels);
+    let reply = receiver.message(&dropped, &mut [], &mut levels, &mut []);
     assert_eq!((reply.number, reply.levels, levels), (0, 0, [3; 1025]));
     let empty = routed(2, 1, 2, PLAIN, &[]);
-    assert_eq!(receiver.message(&empty, &mut [], &mut []).number, 0);
+    let reply = receiver.message(&empty, &mut [], &mut [], &mut []);
+    assert_eq!(reply.number, 0);
 }
 
 /// Check 23, and the space modifier in force.
@@ -194,7 +196,7 @@ fn limits() {
     let offer = |start: [u64; 3]| {
         let (mut receiver, reply) = Receiver::start(start[0], start[1], start[2]);
         assert_eq!(reply, Reply::default());
-        let reply = receiver.message(&frame, &mut [0; 48], &mut []);
+        let reply = receiver.message(&frame, &mut [0; 48], &mut [], &mut []);
         assert_eq!(reply.space, if reply.number == 0 { 0x1155 } else { 0 });
         (reply.number, receiver.readings())
     };

@@ -34,6 +34,7 @@ pub struct Host {
     pub receiver: Receiver,
     pub rows: Vec<i32>,
     pub levels: Vec<u8>,
+    pub assembly: Vec<u8>,
 }
 
 impl Host {
@@ -42,12 +43,17 @@ impl Host {
             receiver: Receiver::start(0, 0, 0).0,
             rows: vec![-7; 600],
             levels: vec![7; 1024],
+            assembly: vec![0xEE; 64],
         }
     }
 
     pub fn offer(&mut self, message: &[u8]) -> Reply {
-        self.receiver
-            .message(message, &mut self.rows, &mut self.levels)
+        self.receiver.message(
+            message,
+            &mut self.rows,
+            &mut self.levels,
+            &mut self.assembly,
+        )
     }
 
     pub fn number(&mut self, message: &[u8]) -> u32 {

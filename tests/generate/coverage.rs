@@ -1,10 +1,11 @@
-//! Which situations of document 01 the generated streams reach, and how
-//! often. Each of them must occur.
+//! Which situations of document 01 and of requests C-11 and C-12 the generated
+//! streams reach, and how often. Each of them must occur.
 
-use crate::first_point;
+use crate::assembly::LONGEST;
 use crate::random::Random;
 use crate::stream::{stream, Offer, Stream};
-use decoder::message::{self, Message, FRAME, LEVELS, VOID, WAVE};
+use crate::{first_point, split_frames, split_table};
+use decoder::message::{self, Message, FRAME, LEVELS, SEQUEL, VOID, WAVE};
 use decoder::receiver::{added, Receiver, Reply, LIMIT};
 use decoder::route::{self, Governing, Tags};
 use std::collections::BTreeMap;
@@ -15,6 +16,8 @@ type Counts = BTreeMap<String, u64>;
 pub struct Case<'a> {
     pub offer: &'a Offer,
     pub message: Message<'a>,
+    /// The octets of a split frame, with the last fragment.
+    pub whole: Option<Vec<u8>>,
     /// What governed the channel before the message.
     open: Option<Governing>,
     /// What governs the message, as far as it can be read.
@@ -59,7 +62,8 @@ impl Case<'_> {
         if self.message.close {
             count(counts, format!("closed, routing {routed}"));
         }
-        if !routed && self.offer.octets[2] & 0x40 != 0 && self.offer.octets[8] != 0 {
+        let header = self.offer.octets[2] & 0x40 != 0 && kind != SEQUEL;
+        if !routed && header && self.offer.octets[8] != 0 {
             count(counts, format!("SCWC without Routing, type {kind}"));
         }
         if kind == VOID && self.reply.space != 0 {
@@ -72,7 +76,9 @@ impl Case<'_> {
         if points > 0 && self.offer.lent.rows == 24 * points {
             count(counts, "rows exactly enough".into());
         }
-        if matches!(mode, 1 | 2) && matches!(points, 0 | 2 | 20 | 100 | 500) && kind != VOID {
+        if matches!((mode, kind), (1, WAVE) | (2, FRAME))
+            && matches!(points, 0 | 2 | 20 | 100 | 500)
+        {
             count(counts, format!("{points} points, mode {mode}"));
         }
         if points > 0 && self.reply.lit_points == 0 {
@@ -92,7 +98,8 @@ impl Case<'_> {
 
     fn samples(&self, counts: &mut Counts) {
         if let Tags::Graphic(layout) = &self.governing.tags {
-            let octets = self.message.data.len() - 4;
+            let data = self.whole.as_deref().unwrap_or(self.message.data);
+            let octets = data.len() - 4;
             let points = octets / layout.width();
             if octets % layout.width() != 0 {
                 count(counts, "samples not whole".into());
@@ -123,6 +130,7 @@ fn count(counts: &mut Counts, situation: String) {
 pub fn follow(stream: &Stream, mut note: impl FnMut(&Case)) -> u32 {
     let [lit_time, points, lit_points] = stream.start;
     let (mut receiver, started) = Receiver::start(lit_time, points, lit_points);
+    let mut assembly = vec![0; LONGEST];
     for offer in &stream.offers {
         let read = message::read(&offer.octets);
         let open = read
@@ -133,13 +141,19 @@ pub fn follow(stream: &Stream, mut note: impl FnMut(&Case)) -> u32 {
             None => open.clone(),
         });
         let meters = receiver.readings();
+        let held = receiver.gathering();
         let mut rows = vec![0; offer.lent.rows];
         let mut levels = vec![0; offer.lent.levels];
-        let reply = receiver.message(&offer.octets, &mut rows, &mut levels);
+        let lent = &mut assembly[..offer.lent.assembly];
+        let reply = receiver.message(&offer.octets, &mut rows, &mut levels, lent);
         if let (Ok(message), Some(governing)) = (read, own) {
             note(&Case {
                 offer,
                 message,
+                whole: held
+                    .filter(|held| message.last && held.is_on(message.channel))
+                    .filter(|_| matches!(reply.number, 0 | 20..=23))
+                    .map(|held| lent[..held.octets + message.data.len()].to_vec()),
                 open,
                 governing,
                 reply,
@@ -207,12 +221,16 @@ fn situations() -> Vec<String> {
 fn situations_of_generated_streams() {
     let mut random = Random::new(2);
     let mut counts = Counts::new();
-    for _ in 0..600 {
+    for _ in 0..1_000 {
         let stream = stream(&mut random, 200);
         let number = follow(&stream, |case| case.note(&mut counts));
         count(&mut counts, format!("start {number}"));
+        split_frames::follow(&stream, |situation| count(&mut counts, situation));
     }
-    let often = first_point::SITUATIONS.map(|(situation, least, _)| (situation.into(), least));
+    let often = first_point::SITUATIONS
+        .iter()
+        .chain(&split_table::SITUATIONS);
+    let often = often.map(|(situation, least, _)| (situation.to_string(), *least));
     let any = situations().into_iter().map(|situation| (situation, 5));
     for (situation, least) in any.chain(often) {
         let count = counts.get(&situation).copied().unwrap_or(0);

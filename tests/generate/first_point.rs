@@ -4,7 +4,7 @@
 
 use crate::coverage::Case;
 use decoder::chunk::{self, Content};
-use decoder::message::{FRAME, WAVE};
+use decoder::message::{FIRST, FRAME, WAVE};
 use decoder::receiver::LIMIT;
 use decoder::rows::lit;
 
@@ -13,7 +13,7 @@ const METERS: [&str; 3] = ["lit microseconds", "points", "lit points"];
 /// The situations that must occur: in how many messages of the streams of
 /// coverage.rs, and in how many histories of histories.rs. Each number is at
 /// most half of the least that twelve seeds gave.
-pub const SITUATIONS: [(&str, u64, usize); 16] = [
+pub const SITUATIONS: [(&str, u64, usize); 25] = [
     ("frame lit only at first", 370, 75),
     ("frame lit at first and later", 500, 80),
     ("frame lit only later", 350, 70),
@@ -62,11 +62,42 @@ pub const SITUATIONS: [(&str, u64, usize); 16] = [
         11,
         5,
     ),
+    ("split frame dark", 77, 27),
+    ("split frame lit at first and later", 92, 32),
+    (
+        "split frame lit at first and later, 23 by 1 in lit microseconds",
+        2,
+        0,
+    ),
+    (
+        "split frame lit at first and later, 23 by 1 in lit points",
+        10,
+        3,
+    ),
+    (
+        "split frame lit at first and later, 23 in lit points if the first counted",
+        2,
+        1,
+    ),
+    ("split frame lit only at first", 73, 26),
+    (
+        "split frame lit only at first, 23 in lit microseconds if the first counted",
+        7,
+        2,
+    ),
+    (
+        "split frame lit only at first, 23 in lit points if the first counted",
+        7,
+        3,
+    ),
+    ("split frame lit only later", 74, 22),
 ];
 
 /// A wave or frame that passed the checks before 23.
 struct Points {
     kind: u8,
+    /// Whether it came in fragments.
+    split: bool,
     first: bool,
     /// The lit points after the first.
     others: u64,
@@ -77,14 +108,19 @@ struct Points {
 impl Points {
     /// None for a message that is no such wave or frame, or has no points.
     fn of(case: &Case) -> Option<Points> {
-        let message = &case.message;
-        let read = chunk::read(&case.governing, message.kind, message.data, case.offer.lent);
+        let (message, lent) = (&case.message, case.offer.lent);
+        let read = match &case.whole {
+            Some(whole) => chunk::whole(&case.governing, FRAME, whole, lent),
+            None if message.kind == FIRST => return None,
+            None => chunk::read(&case.governing, message.kind, message.data, lent),
+        };
         let Ok(Content::Points { rows, duration, .. }) = read else {
             return None;
         };
         let (first, others) = rows.split_first()?;
         Some(Points {
-            kind: message.kind,
+            kind: if message.kind == WAVE { WAVE } else { FRAME },
+            split: case.whole.is_some(),
             first: lit(first),
             others: others.iter().filter(|row| lit(row)).count() as u64,
             count: rows.len() as u64,
@@ -101,7 +137,11 @@ impl Points {
     }
 
     fn name(&self) -> String {
-        let kind = if self.kind == WAVE { "wave" } else { "frame" };
+        let kind = match (self.kind, self.split) {
+            (WAVE, _) => "wave",
+            (_, false) => "frame",
+            (_, true) => "split frame",
+        };
         let lit = match (self.first, self.others > 0) {
             (true, false) => "lit only at first",
             (true, true) => "lit at first and later",

@@ -1,17 +1,23 @@
 //! What the comparisons offer: dictionaries by hand and at random, and streams
 //! of messages that fit what the receiver has come to, most of them, with the
-//! lengths of the slices lent. The same seed gives the same streams. It uses
-//! the decoder of tests/decoder to know what a channel has come to; what is
-//! expected of a message is the decoder's to say.
+//! lengths of the slices lent. Frames come in one message or in fragments. The
+//! same seed gives the same streams. It uses the decoder of tests/decoder to
+//! know what a channel has come to; what is expected of a message is the
+//! decoder's to say.
 
+pub mod assembly;
+mod between;
 mod damage;
 mod data;
 pub mod dictionaries;
+mod draft;
 pub mod end_to_end;
 mod limits;
 pub mod random;
 pub mod random_dictionary;
 mod samples;
+mod sender;
+mod split;
 pub mod stream;
 mod words;
 
@@ -20,4 +26,14 @@ mod coverage;
 #[cfg(test)]
 mod first_point;
 #[cfg(test)]
+mod gathered;
+#[cfg(test)]
 mod histories;
+#[cfg(test)]
+mod kept;
+#[cfg(test)]
+mod split_frames;
+#[cfg(test)]
+mod split_table;
+#[cfg(test)]
+mod steps;

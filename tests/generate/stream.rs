@@ -1,16 +1,18 @@
 //! Random streams of messages for the receiver, with the lengths of the
 //! slices lent with each. The same seed gives the same streams.
 
-use crate::damage::{damage, size};
+use crate::assembly::{Lengths, LONGEST};
+use crate::damage::damage;
 use crate::data::data;
+use crate::draft::{kind, routing, unrouted, Draft};
 use crate::limits::{room, start};
 use crate::random::Random;
-use crate::words::words;
+use crate::sender::Sender;
 use decoder::chunk::Lent;
 use decoder::lookback::Offered;
-use decoder::message::{self, Channel, FRAME, LEVELS, VOID, WAVE};
+use decoder::message::{self, Channel, Message, SEQUEL};
 use decoder::receiver::Receiver;
-use decoder::route::{self, Governing, Tags};
+use decoder::route::{self, Tags};
 
 /// One message and the lengths of the slices lent with it.
 #[derive(Clone, Debug)]
@@ -34,32 +36,9 @@ impl Offer {
 pub struct Stream {
     pub start: [u64; 3],
     pub offers: Vec<Offer>,
-}
-
-/// A message before its octets are put together.
-struct Draft {
-    channel: Channel,
-    kind: u8,
-    /// SCWC, CFL, service and mode, if there is a configuration header.
-    header: Option<[u8; 4]>,
-    /// The octets between the header and the data.
-    words: Vec<u8>,
-    data: Vec<u8>,
-}
-
-impl Draft {
-    fn octets(&self, random: &mut Random) -> Vec<u8> {
-        let mut octets = vec![0, 0, 0x80 | self.channel.0, self.kind];
-        octets.extend(random.octets(4));
-        if let Some(header) = self.header {
-            octets[2] |= 0x40;
-            octets.extend(header);
-        }
-        octets.extend(&self.words);
-        octets.extend(&self.data);
-        size(&mut octets);
-        octets
-    }
+    /// Whether the assembly slice has one length for as long as a frame is
+    /// gathered. Where it has not, the look-back rule promises nothing.
+    pub steady: bool,
 }
 
 /// A stream of up to `most` messages, at least 1.
@@ -67,19 +46,31 @@ pub fn stream(random: &mut Random, most: usize) -> Stream {
     let start = start(random);
     let count = random.between(1, most);
     let channels = random.pick(&[1, 2, 3, 3, 4, 6, 64]);
+    let sender = Sender::new(random);
     let mut maker = Maker {
         channels: (0..channels).map(|_| random.octet() & 0x3F).collect(),
         receiver: Receiver::start(start[0], start[1], start[2]).0,
         rows: vec![0; 24 * message::MOST],
         levels: vec![0; 4096],
+        assembly: vec![0; LONGEST],
+        lengths: Lengths::new(random, sender.splits()),
+        sender,
     };
     let mut offers: Vec<Offer> = Vec::new();
+    let mut steady = true;
     while offers.len() < count {
         let offer = maker.offer(random, &offers);
+        if let (Some(_), Some(before)) = (maker.receiver.gathering(), offers.last()) {
+            steady &= before.lent.assembly == offer.lent.assembly;
+        }
         maker.follow(&offer);
         offers.push(offer);
     }
-    Stream { start, offers }
+    Stream {
+        start,
+        offers,
+        steady,
+    }
 }
 
 /// Makes messages that fit what the receiver has come to, most of them.
@@ -88,27 +79,35 @@ struct Maker {
     receiver: Receiver,
     rows: Vec<i32>,
     levels: Vec<u8>,
+    assembly: Vec<u8>,
+    lengths: Lengths,
+    sender: Sender,
 }
 
 impl Maker {
     fn follow(&mut self, offer: &Offer) {
         let rows = &mut self.rows[..offer.lent.rows];
         let levels = &mut self.levels[..offer.lent.levels];
-        self.receiver.message(&offer.octets, rows, levels);
+        let assembly = &mut self.assembly[..offer.lent.assembly];
+        self.receiver.message(&offer.octets, rows, levels, assembly);
     }
 
-    fn offer(&self, random: &mut Random, earlier: &[Offer]) -> Offer {
-        let mut octets = if !earlier.is_empty() && random.chance(6) {
-            self.again(random, earlier)
-        } else {
-            self.draft(random).octets(random)
+    fn offer(&mut self, random: &mut Random, earlier: &[Offer]) -> Offer {
+        let lengths = &mut self.lengths;
+        let sent = (self.sender).next(random, &self.receiver, &self.channels, lengths);
+        // Fewer of the fragments are damaged, so that frames come to their end.
+        let mut chance = if sent.is_some() { 2 } else { 7 };
+        let mut octets = match sent {
+            Some(octets) => octets,
+            None if !earlier.is_empty() && random.chance(6) => self.again(random, earlier),
+            None => self.draft(random).octets(),
         };
-        let mut chance = 7;
         while random.chance(chance) {
             damage(random, &mut octets);
             chance = 35;
         }
-        let lent = self.lent(random, &octets);
+        let assembly = self.lengths.next(random, self.receiver.gathering());
+        let lent = self.lent(random, &octets, assembly);
         Offer { octets, lent }
     }
 
@@ -128,13 +127,8 @@ impl Maker {
             return routing(random, channel, room(&self.receiver));
         }
         let kind = kind(random, open);
-        let mut draft = Draft {
-            channel,
-            kind,
-            header: None,
-            words: Vec::new(),
-            data: data(random, open, kind, room(&self.receiver)),
-        };
+        let data = data(random, open, kind, room(&self.receiver));
+        let mut draft = Draft::plain(random, channel, kind, data);
         if random.chance(45) {
             unrouted(random, &mut draft);
         }
@@ -142,7 +136,7 @@ impl Maker {
     }
 
     /// Slices that hold the points or levels, most of them.
-    fn lent(&self, random: &mut Random, octets: &[u8]) -> Lent {
+    fn lent(&self, random: &mut Random, octets: &[u8], assembly: usize) -> Lent {
         let need = 24 * self.points(octets).min(message::MOST / 3);
         let rows = match random.below(20) {
             0 | 1 => need.saturating_sub(1),
@@ -159,7 +153,11 @@ impl Maker {
             4..=6 => 1_024 + random.between(1, 900),
             _ => 1_024,
         };
-        Lent { rows, levels }
+        Lent {
+            rows,
+            levels,
+            assembly,
+        }
     }
 
     /// The points of a message as far as its octets can be read.
@@ -178,91 +176,17 @@ impl Maker {
             }
         };
         match tags {
-            Some(Tags::Graphic(layout)) => message.data.len().saturating_sub(4) / layout.width(),
+            Some(Tags::Graphic(layout)) => {
+                self.frame_octets(&message).saturating_sub(4) / layout.width()
+            }
             _ => 1,
         }
     }
-}
 
-/// A mode and a service, most of them fitting.
-fn mode_and_service(random: &mut Random) -> (u8, u8) {
-    let mut mode = random.pick(&[0, 1, 1, 1, 2, 2, 2, 4, 4, 6, 6]);
-    if random.chance(3) {
-        mode = random.pick(&[3, 5, 7, 8, 0x11, 0xC0, 0xFF]);
-    }
-    let fitting = match mode {
-        0 => random.pick(&[0, 1, 2]),
-        6 => random.pick(&[0, 2]),
-        _ => random.pick(&[0, 1]),
-    };
-    let service = if random.chance(4) {
-        random.pick(&[1, 2, 3, 255])
-    } else {
-        fitting
-    };
-    (mode, service)
-}
-
-/// A message with Routing, with what is left of each meter.
-fn routing(random: &mut Random, channel: Channel, room: [u64; 3]) -> Draft {
-    let (mode, service) = mode_and_service(random);
-    let sdm = random.pick(&[0, 0, 1, 2, 3]);
-    let close = u8::from(random.chance(15)) << 1;
-    let words = words(random, mode);
-    let mut scwc = (words.len() / 4) as u8;
-    let read = message::Routing {
-        service: message::Service(service),
-        mode,
-        sdm,
-        words: &words,
-    };
-    let governing = route::check(&read).ok();
-    let kind = kind(random, governing.as_ref());
-    if random.chance(3) {
-        scwc = scwc.saturating_add(random.pick(&[1, 2, 60]));
-    }
-    Draft {
-        channel,
-        kind,
-        header: Some([
-            scwc,
-            random.octet() & 0xCC | sdm << 4 | close | 1,
-            service,
-            mode,
-        ]),
-        data: data(random, governing.as_ref(), kind, room),
-        words,
-    }
-}
-
-/// A configuration header without Routing; SCWC, SDM, service, mode and
-/// words, if any, are to be ignored.
-fn unrouted(random: &mut Random, draft: &mut Draft) {
-    let close = u8::from(random.chance(40)) << 1;
-    let mut scwc = random.pick(&[0, 0, 1, 3, 255]);
-    if random.chance(15) {
-        let mode = random.pick(&[1, 2, 4]);
-        draft.words = words(random, mode);
-        scwc = (draft.words.len() / 4) as u8;
-    }
-    let service = random.pick(&[0, 1, 2, 9]);
-    let mode = random.pick(&[0, 1, 2, 6, 255]);
-    draft.header = Some([scwc, random.octet() & 0xFC | close, service, mode]);
-}
-
-/// A chunk type that goes with the mode, most of the time.
-fn kind(random: &mut Random, governing: Option<&Governing>) -> u8 {
-    if random.chance(1) {
-        return random.pick(&[0x03, 0x10, 0x11, 0xC0, 0x19, 0xFF]);
-    }
-    let every = [VOID, WAVE, FRAME, LEVELS];
-    if random.chance(5) {
-        return random.pick(&every);
-    }
-    match governing.map(|governing| governing.mode) {
-        Some(1) => random.pick(&[WAVE, WAVE, WAVE, WAVE, VOID]),
-        Some(2) => random.pick(&[FRAME, FRAME, FRAME, FRAME, VOID]),
-        Some(4 | 6) => random.pick(&[LEVELS, LEVELS, LEVELS, LEVELS, VOID]),
-        _ => random.pick(&every),
+    /// The octets of the chunk: with a sequel they are those so far.
+    fn frame_octets(&self, message: &Message) -> usize {
+        let held = (self.receiver.gathering())
+            .filter(|held| message.kind == SEQUEL && held.is_on(message.channel));
+        held.map_or(0, |held| held.octets) + message.data.len()
     }
 }

@@ -1,7 +1,8 @@
 /*
  * Prints, for each field of each struct of include/mewkoast.h, its place and
  * size; then the size of the struct. layout.rs prints the same for the structs
- * of tests/calls.rs, with which every test calls the archives.
+ * of tests/tag_calls.rs and tests/calls.rs, with which every test calls the
+ * archives.
  */
 #include "mewkoast.h"
 
@@ -36,6 +37,7 @@ static void tag_layer(void)
 static void receiver(void)
 {
     FIELD(mewkoast_receiver, meters);
+    FIELD(mewkoast_receiver, gathered);
     FIELD(mewkoast_receiver, channels);
     WHOLE(mewkoast_receiver);
     FIELD(mewkoast_reply, number);
@@ -54,6 +56,9 @@ static void receiver(void)
     FIELD(mewkoast_meters, points);
     FIELD(mewkoast_meters, lit_points);
     WHOLE(mewkoast_meters);
+    FIELD(mewkoast_span, start);
+    FIELD(mewkoast_span, length);
+    WHOLE(mewkoast_span);
 }
 
 int main(void)

@@ -1,13 +1,15 @@
-//! Prints, for each field of each struct of tests/calls.rs, its place and size
-//! under its name in include/mewkoast.h; then the size of the struct. layout.c
-//! prints the same for the header.
+//! Prints, for each field of each struct of tests/tag_calls.rs and
+//! tests/calls.rs, its place and size under its name in include/mewkoast.h; then
+//! the size of the struct. layout.c prints the same for the header.
 
 #[path = "../calls.rs"]
 mod calls;
+#[path = "../tag_calls.rs"]
+mod tag_calls;
 
-use calls::{CheckedDictionary, CheckedMapping, DimmerMapping, SampleLayout};
-use calls::{Outcome, Readings, Receiver, Reply};
+use calls::{Outcome, Readings, Receiver, Reply, Span};
 use std::mem::{offset_of, size_of};
+use tag_calls::{CheckedDictionary, CheckedMapping, DimmerMapping, SampleLayout};
 
 /// The size of what a field holds.
 fn held<S, T>(_: fn(&S) -> &T) -> usize {
@@ -30,8 +32,9 @@ fn main() {
     print_fields!("checked_dictionary", CheckedDictionary, number layout);
     print_fields!("dimmer_mapping", DimmerMapping, bases counts base count);
     print_fields!("checked_mapping", CheckedMapping, number dimmer);
-    print_fields!("receiver", Receiver, meters channels);
+    print_fields!("receiver", Receiver, meters gathered channels);
     print_fields!("reply", Reply, number channel chunk_type timestamp space points lit_points levels);
     print_fields!("outcome", Outcome, receiver reply);
     print_fields!("meters", Readings, lit_time points lit_points);
+    print_fields!("span", Span, start length);
 }

@@ -1,7 +1,7 @@
 /*
  * Calls mewkoast_data_section on messages made by hand and compares the part
- * it gives with document 01, "One message" and checks 2, 3 and 5. Prints each
- * difference, then "CASES FAILED" as two numbers.
+ * it gives with document 01, "One message" and checks 2, 3 and 5, and request
+ * C-12. Prints each difference, then "CASES FAILED" as two numbers.
  */
 #include "mewkoast.h"
 
@@ -32,9 +32,20 @@ static const section_case cases[] = {
     {"000D C500 00000000 00FF0000 AA", 12, 1, "Routing, no words, every flag"},
     {"0010 C500 00000000 01010000 00000000", 16, 0, "the words end the message"},
     {"0011 C500 00000000 01010000 00000000 AA", 16, 1, "one octet after the words"},
+    /* C-12: "Sequels carry bare octets from octet 8"; "checks 5 and 17 to 19
+     * pass it by". A first fragment is like a frame. */
+    {"000A 85C0 00000000 AABB", 8, 2, "a sequel"},
+    {"0008 85C0 00000000", 8, 0, "a sequel without octets"},
+    {"0012 C5C0 00000000 01010102 00000000 AABB", 8, 10, "the last, what looks like a word"},
+    {"0008 C5C0 00000000", 8, 0, "the last, without octets"},
+    {"000B C5C0 00000000 AABBCC", 8, 3, "the last, shorter than a header"},
+    {"000C C5C0 00000000 FF010000", 8, 4, "the last, what looks like 255 words"},
+    {"000E 8503 00000000 10000064 AABB", 8, 6, "a first fragment"},
+    {"0012 C503 00000000 04000102 10000064 AABB", 12, 6, "a first fragment, no Routing"},
+    {"0016 C503 00000000 01010102 00000000 10000064 AABB", 16, 6, "a first fragment with Routing"},
     /* Only 2, 3 and 5 give the empty part; 4, 6 and later checks do not. */
-    {"000A 8503 00000000 AABB", 8, 2, "unknown type 03"},
-    {"000A 85C0 00000000 AABB", 8, 2, "unknown type C0"},
+    {"000A 8504 00000000 AABB", 8, 2, "unknown type 04"},
+    {"000A 85C1 00000000 AABB", 8, 2, "unknown type C1"},
     {"0012 C5FF 00000000 01010102 00000000 AABB", 16, 2, "unknown type with Routing"},
     {"000D C502 00000000 0001FFFF AA", 12, 1, "unknown service and mode"},
     {"0011 C502 00000000 01010102 3000 0000 AA", 16, 1, "a tag that 8 refuses"},
@@ -49,14 +60,18 @@ static const section_case cases[] = {
     /* 3 */
     {"0008 0500 00000000", 0, 0, "top bit 0"},
     {"000C 7F02 00000000 10000064", 0, 0, "top bit 0, CCLF 1"},
-    {"000A 0503 00000000 AABB", 0, 0, "top bit 0, unknown type"},
+    {"000A 0504 00000000 AABB", 0, 0, "top bit 0, unknown type"},
+    {"000A 45C0 00000000 AABB", 0, 0, "top bit 0, a sequel"},
     /* 5 */
     {"0008 C500 00000000", 0, 0, "no configuration header"},
     {"000B C500 00000000 000000", 0, 0, "3 octets of the header"},
     {"000C C500 00000000 01010000", 0, 0, "no octet of the word"},
     {"000F C500 00000000 01010000 000000", 0, 0, "3 octets of the word"},
     {"0010 C500 00000000 FF010000 00000000", 0, 0, "1 of 255 words"},
-    {"000C C503 00000000 01010000", 0, 0, "words pass the end, unknown type"},
+    {"000C C504 00000000 01010000", 0, 0, "words pass the end, unknown type"},
+    {"000C C503 00000000 01010000", 0, 0, "words pass the end, a first fragment"},
+    {"000B C503 00000000 000000", 0, 0, "3 octets of the header, a first fragment"},
+    {"000C C5C1 00000000 01010000", 0, 0, "words pass the end, unknown type C1"},
 };
 
 /* Messages of one length: a header, then zeros. */
@@ -70,6 +85,7 @@ typedef struct {
 
 static const long_case long_cases[] = {
     {"FF00 8500 00000000", 65280, 8, 65272, "the longest message"},
+    {"FF00 C5C0 00000000", 65280, 8, 65272, "the longest sequel"},
     {"FF01 8500 00000000", 65281, 0, 0, "one octet above the longest"},
     {"FF00 8500 00000000", 65281, 0, 0, "longer than Total Size"},
     {"0000 8500 00000000", 65536, 0, 0, "65,536 octets, Total Size 0"},

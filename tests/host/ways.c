@@ -1,8 +1,8 @@
 /*
  * Offers messages made by hand through the two ways of the header, in place
- * and by value, and compares replies, records, readings, rows and levels. What
- * the replies must be is the other tests' part; here the numbers are expected.
- * Prints each difference, then "CASES FAILED" as two numbers.
+ * and by value, and compares replies, records, readings and the slices lent.
+ * What the replies must be is the other tests' part; here the numbers are
+ * expected. Prints each difference, then "CASES FAILED" as two numbers.
  */
 #include "mewkoast.h"
 
@@ -23,6 +23,16 @@ static const way_case cases[] = {
          0, 0, 0, 0x7F, 0xFF, 0xFF, 0xFF, 0, 0x80, 0}},
     {0, {0x00, 0x08, 0x85}},
     {18, {0x00, 0x09, 0x85}},
+    /* A frame of two points in three fragments, and one dropped by 25. */
+    {0, {0x00, 0x0D, 0x85, 0x03, 0xFF, 0xFF, 0xFF, 0xFF, 0x10, 0, 0, 0x64, 0x80}},
+    {0, {0x00, 0x0A, 0x85, 0xC0, 0, 0, 0, 0, 0x11, 0x22}},
+    {0, {0x00, 0x13, 0xC5, 0xC0, 0, 0, 0, 1, 0x33, 0x44, 0x55, 0x66,
+         0x77, 0x88, 0x99, 0xAA, 0xBB, 0xCC, 0xDD}},
+    {24, {0x00, 0x08, 0x85, 0xC0, 0, 0, 0, 2}},
+    {0, {0x00, 0x0C, 0x85, 0x03, 0, 0, 0, 0, 0x10, 0, 0, 0x64}},
+    {25, {0x00, 0x08, 0x85, 0xC0, 0, 0, 0, 2}},
+    /* 32 octets are lent, so one more is too many. */
+    {26, {0x00, 0x29, 0x85, 0x03, 0, 0, 0, 0, 0x10}},
     {0, {0x00, 0x17, 0xC6, 0x18, 0, 0, 0, 1, 0x01, 0x01, 0x01, 0x04,
          0x42, 0x01, 0xFE, 0, 0, 0, 0, 0, 0xAA, 0xBB, 0xCC}},
     {19, {0x00, 0x1A, 0x85, 0x02}},
@@ -35,6 +45,7 @@ typedef struct {
     mewkoast_meters meters;
     int32_t rows[48];
     uint8_t levels[MEWKOAST_PLACES];
+    uint8_t assembly[32];
 } host;
 
 static host in_place, by_value;
@@ -60,7 +71,8 @@ static void expect(unsigned number, const char *what)
         memcmp(&a->receiver, &b->receiver, sizeof a->receiver) == 0 &&
         memcmp(&a->meters, &b->meters, sizeof a->meters) == 0 &&
         memcmp(a->rows, b->rows, sizeof a->rows) == 0 &&
-        memcmp(a->levels, b->levels, sizeof a->levels) == 0)
+        memcmp(a->levels, b->levels, sizeof a->levels) == 0 &&
+        memcmp(a->assembly, b->assembly, sizeof a->assembly) == 0)
         return;
     failed++;
     printf("ways, %s: number %u in place, %u by value, expected %u\n", what,
@@ -81,15 +93,16 @@ static void start(uint64_t lit_time, unsigned number)
 static void offer(const uint8_t *octets)
 {
     size_t length = (size_t)octets[0] << 8 | octets[1];
-    mewkoast_outcome next = mewkoast_message(by_value.receiver, octets, length,
-                                             by_value.rows, 48, by_value.levels,
-                                             MEWKOAST_PLACES);
+    host *a = &in_place, *b = &by_value;
+    mewkoast_outcome next = mewkoast_message(
+        b->receiver, octets, length, b->rows, 48, b->levels, sizeof b->levels,
+        b->assembly, sizeof b->assembly);
 
-    by_value.receiver = next.receiver;
-    by_value.reply = next.reply;
-    in_place.reply = mewkoast_offer(&in_place.receiver, octets, length,
-                                    in_place.rows, 48, in_place.levels,
-                                    MEWKOAST_PLACES);
+    b->receiver = next.receiver;
+    b->reply = next.reply;
+    a->reply = mewkoast_offer(&a->receiver, octets, length, a->rows, 48,
+                              a->levels, sizeof a->levels, a->assembly,
+                              sizeof a->assembly);
 }
 
 int main(void)

@@ -1,14 +1,17 @@
 //! Records that break the consistency rule: document 01, check 1, "The record
 //! given breaks the receiver's written consistency rule [...]; it is handed
 //! back as it came." include/mewkoast.h has the rule. And records at its edges,
-//! which keep it.
+//! which keep it. All have numbers of what is gathered at random: "no value in
+//! `gathered`" breaks the rule.
 
 use crate::calls::{self, Receiver};
 use crate::lent::{Record, Slices};
-use crate::messages::{FRAME, ROUTINGS};
+use crate::messages::{first_fragment, FRAME, ROUTINGS};
+use crate::most::MOST;
 use crate::record::{channel, Channel, CHANNELS, KNOWN};
 use crate::tally::Tally;
 use decoder::receiver::{Reply, LIMIT};
+use generate::random::Random;
 
 /// A message that check 2 refuses, so that none but check 1 comes before.
 const CUT: &[u8] = FRAME.first_chunk::<3>().unwrap();
@@ -17,7 +20,7 @@ const CUT: &[u8] = FRAME.first_chunk::<3>().unwrap();
 pub fn opened(tally: &mut Tally) -> Receiver {
     let mut record = calls::start([0; 3]).receiver;
     for octets in ROUTINGS {
-        let next = calls::message(&record, &octets, &mut [], &mut []);
+        let next = calls::message(&record, &octets, &mut [], &mut [], &mut []);
         let reply = next.reply.own();
         tally.same(reply.number == 0, || format!("a routing: {reply:?}"));
         record = next.receiver;
@@ -33,6 +36,7 @@ pub fn offer(record: &Receiver, tally: &mut Tally) {
         tally,
         number: 1,
         way: "",
+        random: Random::new(1),
     };
     copies.meters(LIMIT + 1);
     copies.meters(u64::MAX);
@@ -47,12 +51,22 @@ pub fn offer(record: &Receiver, tally: &mut Tally) {
     }
 }
 
+/// Four numbers of what is gathered, most of them at an edge.
+fn gathered(random: &mut Random) -> [u32; 4] {
+    let edges = [0, 1, 3, 4, 64, 65, 256, MOST, MOST + 1, u32::MAX];
+    [(); 4].map(|()| match random.chance(70) {
+        true => random.pick(&edges),
+        false => random.next() as u32,
+    })
+}
+
 struct Copies<'a> {
     record: &'a Receiver,
     tally: &'a mut Tally,
     /// What a message of three octets gets.
     number: u32,
     way: &'static str,
+    random: Random,
 }
 
 impl Copies<'_> {
@@ -61,7 +75,7 @@ impl Copies<'_> {
         for meter in 0..3 {
             let mut copy = *self.record;
             copy.meters[meter] = reading;
-            self.answered(&copy);
+            self.answered(copy);
         }
     }
 
@@ -101,13 +115,15 @@ impl Copies<'_> {
     fn with(&mut self, number: usize, change: impl FnOnce(&mut Channel)) {
         let mut copy = *self.record;
         change(&mut channel(&mut copy, number));
-        self.answered(&copy);
+        self.answered(copy);
     }
 
-    fn answered(&mut self, copy: &Receiver) {
-        self.refused(copy, CUT);
+    fn answered(&mut self, mut copy: Receiver) {
+        copy.gathered = gathered(&mut self.random);
+        self.refused(&copy, CUT);
         if self.number == 1 {
-            self.refused(copy, &FRAME);
+            self.refused(&copy, &FRAME);
+            self.refused(&copy, &first_fragment(2));
             self.tally.number(1);
         }
     }
@@ -117,7 +133,7 @@ impl Copies<'_> {
     /// the slices are unchanged.
     fn refused(&mut self, copy: &Receiver, octets: &[u8]) {
         let [before, mut by_value, mut in_place] = [(); 3].map(|()| Slices::small());
-        let back = calls::message(copy, octets, by_value.rows.slice(), by_value.levels.slice());
+        let back = by_value.message(copy, octets);
         let mut lent = Record::of(copy);
         let replies = [back.reply.own(), lent.offer(octets, &mut in_place)];
         let expected = Reply {

@@ -149,9 +149,8 @@ impl Copies<'_> {
         for octets in messages {
             let mut slices = [(); 3].map(|()| Slices::small());
             let [first, second, third] = &mut slices;
-            let next = calls::message(&copy, octets, first.rows.slice(), first.levels.slice());
-            let expected =
-                calls::message(&like, octets, second.rows.slice(), second.levels.slice());
+            let next = first.message(&copy, octets);
+            let expected = second.message(&like, octets);
             let replies = [next.reply.own(), lent.offer(octets, third)];
             last = expected.reply.own();
             (copy, like) = (next.receiver, expected.receiver);

@@ -3,28 +3,41 @@
 //! 0" (include/mewkoast.h).
 
 use crate::calls::{self, Receiver};
-use crate::lent::{Lent, Record, Slices};
-use crate::messages::{keep_alive, FRAME};
+use crate::lent::{Lengths, Lent, Record, Slices};
+use crate::messages::{first_fragment, keep_alive, FRAME};
 use crate::tally::Tally;
 use decoder::receiver::{Reply, LIMIT};
 
-const CHANNELS: usize = 6528;
-const METERS: usize = 3;
+/// Lengths around those of a record, of each array.
+const CHANNELS: [usize; 6] = [6528, 0, 1, 64, 6527, 6529];
+const METERS: [usize; 5] = [3, 0, 1, 2, 4];
+const GATHERED: [usize; 5] = [4, 0, 1, 3, 5];
 
-/// Offers messages to a record of which the arrays are cut or longer.
+/// Offers messages to a record of which arrays are cut or longer.
 pub fn offer(record: &Receiver, tally: &mut Tally) {
-    for channels in [0, 1, 64, CHANNELS - 1, CHANNELS, CHANNELS + 1] {
-        for meters in [0, 1, METERS - 1, METERS, METERS + 1] {
-            if (channels, meters) != (CHANNELS, METERS) {
-                let given = Record::cut(record, channels, meters);
-                begin(&given, tally);
-                message(&given, &FRAME, tally);
-                message(&given, &keep_alive(5), tally);
-                message(&given, &[], tally);
+    for channels in CHANNELS {
+        for meters in METERS {
+            for gathered in GATHERED {
+                let lengths = Lengths {
+                    channels,
+                    meters,
+                    gathered,
+                };
+                if lengths != Lengths::RECORD {
+                    refuses(&Record::cut(record, lengths), tally);
+                }
             }
         }
     }
     readings(record, tally);
+}
+
+fn refuses(given: &Record, tally: &mut Tally) {
+    begin(given, tally);
+    message(given, &FRAME, tally);
+    message(given, &first_fragment(5), tally);
+    message(given, &keep_alive(5), tally);
+    message(given, &[], tally);
 }
 
 fn begin(given: &Record, tally: &mut Tally) {
@@ -47,7 +60,11 @@ fn refused(reply: Reply, kept: bool, what: &str, given: &Record, tally: &mut Tal
         number: 1,
         ..Reply::default()
     };
-    let lengths = (given.channels.read().len(), given.meters.read().len());
+    let lengths = Lengths {
+        channels: given.channels.read().len(),
+        meters: given.meters.read().len(),
+        gathered: given.gathered.read().len(),
+    };
     tally.lengths += 1;
     tally.same(reply == expected && kept, || {
         format!("{what} on lengths {lengths:?}: {reply:?}, unchanged: {kept}")
@@ -57,11 +74,11 @@ fn refused(reply: Reply, kept: bool, what: &str, given: &Record, tally: &mut Tal
 /// Of any number of meters, also of those above the limit.
 fn readings(record: &Receiver, tally: &mut Tally) {
     for meters in [record.meters, [5, 6, 7], [LIMIT + 1, u64::MAX, 0]] {
-        for length in 0..=METERS + 2 {
+        for length in 0..=meters.len() + 2 {
             let mut lent = Lent::new(length, |place| u64::from(place) + 1000);
             lent.put(&meters);
             let mut expected = [0; 3];
-            let common = length.min(METERS);
+            let common = length.min(meters.len());
             expected[..common].copy_from_slice(&meters[..common]);
             let given = calls::readings_on(lent.read());
             tally.lengths += 1;

@@ -14,11 +14,17 @@
 mod broken;
 mod compare;
 mod forged;
+mod gathered;
 mod lengths;
-mod lent;
 mod messages;
+mod most;
 mod record;
+mod section;
 mod tally;
+
+// tests/before uses it too, and each a part of it.
+#[allow(dead_code)]
+mod lent;
 
 #[path = "../calls.rs"]
 mod calls;
@@ -35,6 +41,10 @@ const LONGEST: usize = 200;
 
 /// Changed records are offered after every so many streams.
 const BETWEEN: usize = 16;
+
+/// One of so many streams is offered once more, by a host that alters the
+/// assembly slice.
+const ALTERED: usize = 4;
 
 fn main() -> ExitCode {
     let arguments: Vec<String> = std::env::args().skip(1).collect();
@@ -74,12 +84,17 @@ fn run(count: usize) -> bool {
     let mut tally = Tally::default();
     let opened = broken::opened(&mut tally);
     changed(&opened, &mut tally);
+    most::offer(&opened, &mut tally);
     let mut streams = 0;
     while tally.messages < count {
         let mut random = Random::new(streams as u64);
         let mut next = stream(&mut random, LONGEST);
         next.offers.truncate(count - tally.messages);
         let last = compare::stream(&next, &format!("stream {streams}"), &mut tally);
+        if streams % ALTERED == 0 {
+            let name = format!("stream {streams}");
+            compare::altered(&next, &name, &mut random, &mut tally);
+        }
         if streams % BETWEEN == 0 {
             changed(&last, &mut tally);
         }
@@ -97,6 +112,7 @@ fn run(count: usize) -> bool {
 fn changed(record: &calls::Receiver, tally: &mut Tally) {
     broken::offer(record, tally);
     forged::offer(record, tally);
+    gathered::offer(record, tally);
     lengths::offer(record, tally);
 }
 

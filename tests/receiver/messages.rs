@@ -46,3 +46,25 @@ pub fn levels(channel: usize, match_bits: u8, count: usize) -> Vec<u8> {
     octets.extend((0..count).map(|place| (place * 7 + 3) as u8));
     octets
 }
+
+/// The first fragment of a frame of three octets a sample: its header, with
+/// match bits 0, and a sample.
+pub fn first_fragment(channel: usize) -> [u8; 15] {
+    let second = 0x80 | channel as u8;
+    [0, 15, second, 0x03, 0, 0, 0, 9, 0, 0, 0, 0x64, 1, 2, 3]
+}
+
+/// A sequel with these octets; `last` marks it as the last.
+pub fn sequel(channel: usize, timestamp: u32, last: bool, data: &[u8]) -> Vec<u8> {
+    let second = 0x80 | u8::from(last) << 6 | channel as u8;
+    let mut octets = ((8 + data.len()) as u16).to_be_bytes().to_vec();
+    octets.extend([second, 0xC0]);
+    octets.extend(timestamp.to_be_bytes());
+    octets.extend(data);
+    octets
+}
+
+/// Closes a channel with a Void chunk.
+pub fn close(channel: usize) -> [u8; 12] {
+    [0, 12, 0xC0 | channel as u8, 0, 0, 0, 0, 0, 0, 0x02, 0, 0]
+}

@@ -9,7 +9,9 @@ pub const CHANNELS: usize = 64;
 
 /// The state of an open channel is its mode + 1; 0 is a closed one.
 pub const KNOWN: [u8; 6] = [0, 1, 2, 3, 5, 7];
-pub const GRAPHIC: [u8; 2] = [2, 3];
+pub const VOID: u8 = 1;
+pub const FRAMES: u8 = 3;
+pub const GRAPHIC: [u8; 2] = [2, FRAMES];
 pub const DIMMER: [u8; 2] = [5, 7];
 
 /// The octets of an area that a layout takes: roles, wavelengths, space.
@@ -42,6 +44,12 @@ pub fn size(record: &Receiver, number: usize) -> u8 {
 
 pub fn colours(record: &Receiver, number: usize) -> u8 {
     record.channels[3 * CHANNELS + number]
+}
+
+/// What the numbers of what is gathered say: the first is 0 where it is no frame.
+pub fn shown(gathered: &[u32]) -> Option<[u32; 4]> {
+    let numbers: [u32; 4] = gathered.try_into().unwrap();
+    (numbers[0] != 0).then_some(numbers)
 }
 
 fn area_of(number: usize) -> Range<usize> {

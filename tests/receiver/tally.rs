@@ -12,9 +12,15 @@ pub struct Tally {
     pub broken: usize,
     /// Calls in place on arrays of other lengths than a record's.
     pub lengths: usize,
+    /// Those of the messages before which the host altered the assembly slice.
+    pub altered: usize,
+    /// Those of which the look-back rule was asked.
+    pub looked_back: usize,
+    /// Messages offered to records with other numbers of what is gathered.
+    pub gathered: usize,
     /// How often each number was given, starts not counted.
-    numbers: [u64; 24],
-    /// Numbers above 23.
+    numbers: [u64; 27],
+    /// Numbers above 26.
     strange: u64,
     differed: u64,
 }
@@ -39,7 +45,7 @@ impl Tally {
     }
 
     /// Prints the last line; true if nothing differed and every number from
-    /// 0 to 23 occurred.
+    /// 0 to 26 occurred.
     pub fn finish(&self) -> bool {
         let numbers: Vec<String> = self
             .numbers
@@ -49,9 +55,12 @@ impl Tally {
             .collect();
         let never = self.numbers.iter().filter(|count| **count == 0).count();
         println!(
-            "receiver: {} messages by value and in place, {} to broken records, {} calls on other lengths; numbers {}; {} never occurred, {} differed",
+            "receiver: {} messages by value and in place, {} of them after the host altered the assembly slice, {} by the look-back rule, {} to broken records, {} to records with other numbers of what is gathered, {} calls on other lengths; numbers {}; {} never occurred, {} differed",
             self.messages,
+            self.altered,
+            self.looked_back,
             self.broken,
+            self.gathered,
             self.lengths,
             numbers.join(", "),
             never,

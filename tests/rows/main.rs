@@ -9,7 +9,7 @@ mod samples;
 mod tags;
 mod tally;
 
-#[path = "../calls.rs"]
+#[path = "../tag_calls.rs"]
 mod calls;
 // The word of the command is that of the dictionary comparison.
 #[path = "../dictionary/extent.rs"]

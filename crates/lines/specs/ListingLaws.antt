@@ -13,11 +13,11 @@ pub record TakenApart (input : List ℕ) (messages : List (List ℕ)) (unread : 
   pub listed : messagesIn (length messages) input ≡ messages
   pub left : leftIn (length messages) input ≡ unread
 
-pub taken-apart : {input : List ℕ} {messages : List (List ℕ)} {r : Receiver} {unread : List ℕ} → Listing input messages r unread
+pub taken-apart : {input : List ℕ} {messages : List (List ℕ)} {r : Receiver} {assembly unread : List ℕ} → Listing input messages r assembly unread
     → TakenApart input messages unread
 unfolding messagesIn leftIn
-taken-apart (begun o started unread) = record { listed = refl; left = refl }
-taken-apart (listed {input = input} {messages = messages} {unread = unread} run some s₀ s₁ o room answered more) =
+taken-apart (begun o started assembly unread) = record { listed = refl; left = refl }
+taken-apart (listed {input = input} {messages = messages} {unread = unread} run some s₀ s₁ o room same answered more) =
     let before = taken-apart run in
     let n : length (messages ++ (take (entryOf unread) unread ∷ [])) ≡ length (messagesIn (length messages) input) + 1 =
     rw (before .listed, length-append) refl in

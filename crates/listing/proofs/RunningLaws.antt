@@ -1,7 +1,7 @@
 -- Laws of the listing's run: the message at the front of a part is offered, the rest is kept, and others are read after it.
 use Prim.Native.Nat.{ℕ, _+_, _-_, _<_, _≤_}
 use native.Mathlib.Omega.{arith}
-use mathlib.Core.Path.{_≡_, sym, ap, subst, _∙_}
+use mathlib.Core.Path.{_≡_, refl, sym, ap, subst, _∙_}
 use mathlib.Core.List.{List, [], _∷_, _++_}
 use lib.ListN.{length, take, drop, length-append, length-drop, take-append-drop}
 use lib.Seq.{take-take, drop-drop, take-add, drop-at, length-take-le}
@@ -33,10 +33,11 @@ module _ (octets : List ℕ) (from size end : ℕ) (ordered : from + size ≤ en
 
 -- ---- one message more
 
-pub running-next : {n : ℕ} {r : Receiver} (u u′ : Unread) (octets octets′ : List ℕ) → Running n r (unread u octets) → Ready u octets → 0 < u .size
-    → (s₀ s₁ : Slices) (o : Outcome) → lengths s₀ ≡ lent 12000 1024 → Answered r (part (u .from) (u .from + u .size) octets) s₀ o s₁
-    → Kept (part (u .from + u .size) (u .end) octets) u′ octets′ → Running (n + 1) (o .receiver) (unread u′ octets′)
-running-next {n} {r} u u′ octets octets′ running ready some s₀ s₁ o room answered kept =
+pub running-next : {n : ℕ} {r : Receiver} (u u′ : Unread) (octets octets′ : List ℕ) (s₀ s₁ : Slices) (o : Outcome)
+    → Running n r (s₀ .assembly) (unread u octets) → Ready u octets → 0 < u .size
+    → lengths s₀ ≡ lent 12000 1024 65536 → Answered r (part (u .from) (u .from + u .size) octets) s₀ o s₁
+    → Kept (part (u .from + u .size) (u .end) octets) u′ octets′ → Running (n + 1) (o .receiver) (s₁ .assembly) (unread u′ octets′)
+running-next {n} {r} u u′ octets octets′ s₀ s₁ o running ready some room answered kept =
     let whole = unread u octets in
     let front = part-front octets (u .from) (u .size) (u .end) (ready .ordered) (ready .within) in
     let rest = part-rest octets (u .from) (u .size) (u .end) (ready .ordered) (ready .within) in
@@ -47,10 +48,10 @@ running-next {n} {r} u u′ octets octets′ running ready some s₀ s₁ o room
     let more = drop (length before) (unread u′ octets′) in
     let joined : drop (entryOf whole) whole ++ more ≡ unread u′ octets′ =
     ap (λ (l : List ℕ). l ++ more) (sym left) ∙ ap (λ (l : List ℕ). l ++ more) (sym (kept .first)) ∙ take-append-drop (length before) (unread u′ octets′) in
-    let next = Listing.listed (running .run) (subst (λ (k : ℕ). 0 < k) (ready .size) some) s₀ s₁ o room (subst (λ (m : List ℕ). Answered r m s₀ o s₁) message answered) more in
+    let next = Listing.listed (running .run) (subst (λ (k : ℕ). 0 < k) (ready .size) some) s₀ s₁ o room refl (subst (λ (m : List ℕ). Answered r m s₀ o s₁) message answered) more in
     record {
       input = running .input ++ more;
       messages = running .messages ++ (take (entryOf whole) whole ∷ []);
-      run = subst (Listing (running .input ++ more) (running .messages ++ (take (entryOf whole) whole ∷ [])) (o .receiver)) joined next;
+      run = subst (Listing (running .input ++ more) (running .messages ++ (take (entryOf whole) whole ∷ [])) (o .receiver) (s₁ .assembly)) joined next;
       counted = length-append (running .messages) (take (entryOf whole) whole ∷ []) ∙ ap (λ (k : ℕ). k + 1) (running .counted);
     }

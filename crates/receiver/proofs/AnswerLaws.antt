@@ -1,294 +1,290 @@
--- Laws about the answer to a message: what a refusal, the closing by 19 and an acceptance leave meets the contract.
+-- Laws about the answer to a message: judged on itself, its fragment taken, the whole tried and drawn and the record settled, it meets the
+-- contract.
 use mathlib.Core.Path.{_≡_, refl, sym, ap, subst, _∙_}
-use Prim.Native.Nat.{ℕ, zero, suc, _+_, _<_, _^_}
-use mathlib.Core.Bool.{Bool, true, false, false≢true, cond}
-use mathlib.Core.List.{List, [], _∷_}
+use Prim.Native.Nat.{ℕ, zero, _+_, _<_, _≤_, _^_}
+use mathlib.Core.Bool.{Bool, true, false, cond, and-false, _&&_}
+use mathlib.Core.List.{List}
 use native.Mathlib.Nat.{add-zero}
 use native.Mathlib.Omega.{arith}
-use lib.ListN.{length, getD, set, length-set}
-use lib.Seq.{ext-getD}
+use lib.ListN.{length, getD, take}
 use lib.Dec.{eqb}
-use borrow.Author.Tests.{eqb-true, eqb-false, eq-eqb}
-use Rattle.tags.specs.Kept.{areaSize}
-use Rattle.receiver.specs.Message.{channelOf, routes, closes}
-use Rattle.receiver.specs.Modes.{channelCount}
-use Rattle.receiver.specs.Governing.{Configuration, closed, meant}
-use Rattle.receiver.specs.Slices.{Slices, Lent, lengths}
-use Rattle.receiver.specs.Chunk.{chunkOf}
-use Rattle.receiver.specs.Meters.{Sums, sums, plus, overLimit, addedBy}
-use Rattle.receiver.specs.Checks.{headerNumber, governs, contentNumber, numberOf}
-use Rattle.receiver.specs.Effects.{bareReply, replyOf, slicesAfter, sumsAfter, governingAfter}
-use Rattle.receiver.specs.Record.{recordIn, recordSize, meterCount, configIn, areaIn, channelsOf, configurationOf, sumsOf, consistentAt, consistentUpTo, sized, consistent}
-use Rattle.receiver.specs.Contract.{outcome, readingsOf, messageNumber, AnsweredWith, Answered}
-use Rattle.receiver.specs.Steps.{Governed, countsOf, countsWith, noCounts, WrittenBy, storedIn, closedBy, settledIn, risenFrom}
-use Rattle.receiver.specs.declared.Config.{Config}
+use borrow.Author.Tests.{eqb-true}
+use Rattle.tags.specs.Choice.{first}
+use Rattle.tags.specs.ChoiceLaws.{and-left, and-right, first-zero-left}
+use Rattle.tags.specs.Kept.{areaSize, octetsPut}
+use Rattle.receiver.specs.Message.{channelOf, typeOf, isLast, routes, closes, dataOf}
+use Rattle.receiver.specs.Governing.{Configuration}
+use Rattle.receiver.specs.Slices.{Slices, slices, lengths}
+use Rattle.receiver.specs.Chunk.{Chunk, chunk, chunkOf, isFragment}
+use Rattle.receiver.specs.Gathering.{Gathering, placeIn, endIn, soFar, completes, wholeOf}
+use Rattle.receiver.specs.Meters.{plus, overLimit, addedBy}
+use Rattle.receiver.specs.Checks.{headerNumber, governs, roomNumber, ownNumber, wholeNumber, numberOf}
+use Rattle.receiver.specs.Effects.{replyOf, drawn, ofWhole, takes, assemblyAfter, slicesAfter, sumsAfter, gatheringAfter}
+use Rattle.receiver.specs.Record.{recordIn, gatheredIn, gatheringIn, gatheringOf, standingOf, channelsOf, configurationOf, sumsOf, consistent}
+use Rattle.receiver.specs.Contract.{outcome, readingsOf, messageNumber, changes, AnsweredWith, Answered}
+use Rattle.receiver.specs.Steps.{gatheredBy, Governed, ownNumberOf, taken, TakenIn, gatheredAfter, countsOf, countsWith, noCounts, wholeIn, Concluded, settledIn, risenFrom}
 use Rattle.receiver.specs.declared.Receiver.{Receiver}
+use Rattle.receiver.specs.declared.Outcome.{Outcome}
 use Rattle.receiver.specs.declared.route.Found.{Found}
-use Rattle.receiver.specs.declared.draw.Counts.{Counts}
-use Rattle.receiver.proofs.CheckLaws.{accepted-passed, channel-below, within-each, accepted-within}
-use Rattle.receiver.proofs.RecordLaws.{configuration-closed, consistent-closed}
-use Rattle.receiver.proofs.SettleLaws.{length-stored, config-stored, area-stored, config-shut, area-shut, channels-changed, consistent-each, consistent-changed}
+use Rattle.receiver.specs.declared.draw.Done.{Done}
+use Rattle.receiver.proofs.CheckLaws.{channel-below, plus-zero, within-each, sumsAfter-within}
+use Rattle.receiver.proofs.SettleLaws.{length-settled}
+use Rattle.receiver.proofs.GatherLaws.{four-gathered, room-ends, soFar-put, gatheringAfter-in}
+use Rattle.receiver.proofs.WholeLaws.{own-not-whole, takes-taken}
 use Rattle.receiver.proofs.JudgeLaws.{consistent-limit, consistent-channels}
+use Rattle.receiver.proofs.ChannelLaws.{settled-governs, settled-consistent}
+use Rattle.receiver.proofs.SizedLaws.{Sized, added, risen-none, consistent-of}
+use Rattle.receiver.proofs.RefusalLaws.{passed-good, passed-own, passed-found, unchanged-by, takes-none}
 
--- ---- a record's arrays
-
--- they are as long as a record's are
-pub record Sized (r : Receiver) : Type 0 where
-  pub channels : length (r .channels) ≡ recordSize
-  pub meters : length (r .meters) ≡ meterCount
-
--- three meters are known one by one
-pub three-meters : (l : List ℕ) → length l ≡ meterCount → (getD l 0 0 ∷ getD l 1 0 ∷ getD l 2 0 ∷ []) ≡ l
-three-meters l e =
-    ext-getD 0 (getD l 0 0 ∷ getD l 1 0 ∷ getD l 2 0 ∷ []) l (sym e) each
-  where
-    each : (i : ℕ) → i < 3 → getD (getD l 0 0 ∷ getD l 1 0 ∷ getD l 2 0 ∷ []) i 0 ≡ getD l i 0
-    each zero h = refl
-    each (suc zero) h = refl
-    each (suc (suc zero)) h = refl
-    each (suc (suc (suc i))) h = absurd (omega arith)
-
--- and set one by one
-pub three-stored : (l : List ℕ) (a b c : ℕ) → length l ≡ meterCount → set (set (set l 0 a) 1 b) 2 c ≡ (a ∷ b ∷ c ∷ [])
-three-stored [] a b c e = absurd (omega (arith, e))
-three-stored (x ∷ []) a b c e = absurd (omega (arith, e))
-three-stored (x ∷ y ∷ []) a b c e = absurd (omega (arith, e))
-three-stored (x ∷ y ∷ z ∷ []) a b c e = refl
-three-stored (x ∷ y ∷ z ∷ w ∷ l) a b c e = absurd (omega (arith, e))
-
--- nothing added leaves them
-risen-none : (r : Receiver) → length (r .meters) ≡ meterCount → risenFrom (readingsOf r) noCounts ≡ r .meters
-risen-none r e =
-    rw (add-zero (getD (r .meters) 0 0), add-zero (getD (r .meters) 1 0), add-zero (getD (r .meters) 2 0)) (three-meters (r .meters) e)
-
--- a record is consistent whose arrays have their lengths, whose meters are within their limit and whose channels are
-consistent-of : (r : Receiver) → Sized r → overLimit (sumsOf r) ≡ false → consistentUpTo (r .channels) channelCount ≡ true → consistent r ≡ true
-unfolding consistent
-consistent-of r z within sound =
-    rw (eq-eqb (length (r .channels)) recordSize (z .channels), eq-eqb (length (r .meters)) meterCount (z .meters), within, sound)
-
--- ---- what a message answered with a number passed
-
--- a number other than 1 was given to a consistent record
-pub number-good : (r : Receiver) (m : List ℕ) (lent : Lent) (n : ℕ) → messageNumber r m lent ≡ n → eqb n 1 ≡ false → consistent r ≡ true
-number-good r m lent n e f = go (consistent r) refl (λ q. eqb-false n 1 f (sym e ∙ q))
-  where
-    go : (b : Bool) → consistent r ≡ b → (cond b (numberOf m lent (channelsOf r) (sumsOf r)) 1 ≡ 1 → ⊥) → consistent r ≡ true
-    go true p h = p
-    go false p h = absurd (h refl)
-
-module _ (r : Receiver) (m : List ℕ) (lent : Lent) (accepted : messageNumber r m lent ≡ 0) where
-  accepted-good : consistent r ≡ true
-  accepted-good = number-good r m lent 0 accepted refl
-
-  accepted-number : numberOf m lent (channelsOf r) (sumsOf r) ≡ 0
-  accepted-number = let e = accepted in rw accepted-good at e
-
-  module _ (f : Found) (area : List ℕ) (governed : Governed r m f area) where
-    -- something was found to govern it
-    pub accepted-found : f .number ≡ 0
-    accepted-found =
-        let passed = accepted-passed m lent (channelsOf r) (sumsOf r) accepted-number in
-        governed .number ∙ rw (accepted-good, passed .header, passed .route)
-
-    -- and its chunk can be drawn by that
-    pub accepted-drawable : (headerNumber m ≡ 0) × (contentNumber (chunkOf m) (configurationOf (f .config) area) lent ≡ 0)
-    accepted-drawable =
-        let passed = accepted-passed m lent (channelsOf r) (sumsOf r) accepted-number in
-        (passed .header, rw (governed .config accepted-found) (passed .content))
-
--- ---- what an acceptance adds
-
-abbrev added : Counts → Sums
-added d = sums (d .«lit_time») (d .points) (d .«lit_points»)
-
-added-counts : (m : List ℕ) (v : Configuration) → added (countsOf (chunkOf m) v) ≡ addedBy (chunkOf m) v
-unfolding addedBy
-added-counts m v = refl
-
--- ---- each way to answer
-
-module _ (r : Receiver) (m : List ℕ) (s : Slices) where
-  -- a refusal by anything but 19
-  answered-refused : (n : ℕ) (v : Configuration) → eqb n 0 ≡ false → eqb n 19 ≡ false
-      → AnsweredWith n r m s (outcome r (replyOf m n v)) s
-  unfolding replyOf slicesAfter sumsAfter governingAfter
-  answered-refused n v e f =
-      record { reply = rw e; slices = rw e; meters = rw e; channels = λ c. rw (e, f); sound = refl; kept = λ q. refl }
-
-  -- arrays of other lengths are no record
-  pub answered-unsized : sized r ≡ false → Answered r m s (outcome r (bareReply 1)) s
-  unfolding consistent replyOf
-  answered-unsized e = rw e (answered-refused 1 (meant closed) refl refl)
-
-module _ (r : Receiver) (z : Sized r) (m : List ℕ) (s : Slices) where
-  abbrev i : ℕ
-  i = channelOf m
-
-  -- ---- the channel closed
-  abbrev shut : List ℕ → Receiver
-  shut meters = recordIn (set (r .channels) i 0) meters
-
-  shut-governs : (meters : List ℕ) (c : ℕ) → channelsOf (shut meters) c ≡ cond (eqb c i) (meant closed) (channelsOf r c)
-  shut-governs meters =
-      channels-changed r (shut meters) i (channel-below m) (meant closed)
-      (λ c below.
-      (λ j. configurationOf (config-shut (r .channels) (z .channels) i (channel-below m) c below j) (area-shut (r .channels) (z .channels) i (channel-below m) c j))
-      ∙ go c (eqb c i))
-    where
-      go : (c : ℕ) (b : Bool)
-          → configurationOf (cond b (closedBy true (configIn (r .channels) i)) (configIn (r .channels) c)) (areaIn (r .channels) c)
-          ≡ cond b (meant closed) (configurationOf (configIn (r .channels) c) (areaIn (r .channels) c))
-      go c true = configuration-closed (closedBy true (configIn (r .channels) i)) (areaIn (r .channels) c) refl
-      go c false = refl
-
-  shut-sound : (meters : List ℕ) → length meters ≡ meterCount → consistent r ≡ true → overLimit (sumsOf (shut meters)) ≡ false
-      → consistent (shut meters) ≡ true
-  shut-sound meters three good within =
-      consistent-of (shut meters) (record { channels = length-set (r .channels) i 0 ∙ z .channels; meters = three }) within
-      (consistent-changed (r .channels) (set (r .channels) i 0) i (closedBy true (configIn (r .channels) i))
-      (config-shut (r .channels) (z .channels) i (channel-below m)) (consistent-channels r good)
-      (consistent-closed true (configIn (r .channels) i) (consistent-each (r .channels) channelCount (consistent-channels r good) i (channel-below m))))
-
-  pub answered-closed : (v : Configuration) → consistent r ≡ true → AnsweredWith 19 r m s (outcome (shut (r .meters)) (replyOf m 19 v)) s
-  unfolding replyOf slicesAfter sumsAfter governingAfter
-  answered-closed v good =
-      record {
-        reply = refl;
-        slices = refl;
-        meters = refl;
-        channels = shut-governs (r .meters);
-        sound = shut-sound (r .meters) (z .meters) good (consistent-limit r good) ∙ sym good;
-        kept = λ q. absurd (false≢true (sym q));
-      }
-
-  -- ---- an acceptance: a Routing stores what governs it, Close closes the channel, another message leaves it
-  module _ (accepted : messageNumber r m (lengths s) ≡ 0)
-      (k : Config) (area : List ℕ) (w : length area ≡ areaSize)
-      (config : configurationOf k area ≡ governs m (channelsOf r)) (sound : consistentAt k ≡ true) where
-    -- the meters as they rise
-    abbrev risen : List ℕ
-    risen = risenFrom (readingsOf r) (countsOf (chunkOf m) (configurationOf k area))
-
-    risen-added : (channels : List ℕ)
-        → sumsOf (recordIn channels risen) ≡ plus (sumsOf r) (addedBy (chunkOf m) (governs m (channelsOf r)))
-    risen-added channels = ap (plus (sumsOf r)) (added-counts m (configurationOf k area) ∙ ap (addedBy (chunkOf m)) config)
-
-    pub risen-within : (channels : List ℕ) → overLimit (sumsOf (recordIn channels risen)) ≡ false
-    risen-within channels =
-        ap overLimit (risen-added channels)
-        ∙ accepted-within m (lengths s) (channelsOf r) (sumsOf r) (accepted-number r m (lengths s) accepted)
-
-    good : consistent r ≡ true
-    good = accepted-good r m (lengths s) accepted
-
-    -- the record after it
-    abbrev left : Bool → Bool → List ℕ
-    left routing closing =
-        cond routing (storedIn (r .channels) i (closedBy closing k) area) (cond closing (set (r .channels) i 0) (r .channels))
-
-    stored-governs : (closing : Bool) (c : ℕ)
-        → channelsOf (recordIn (storedIn (r .channels) i (closedBy closing k) area) risen) c
-        ≡ cond (eqb c i) (configurationOf (closedBy closing k) area) (channelsOf r c)
-    stored-governs closing =
-        channels-changed r (recordIn (storedIn (r .channels) i (closedBy closing k) area) risen) i (channel-below m) (configurationOf (closedBy closing k) area)
-        (λ c below.
-        (λ j. configurationOf (config-stored (r .channels) (z .channels) i (channel-below m) (closedBy closing k) area w c below j) (area-stored (r .channels) (z .channels) i (channel-below m) (closedBy closing k) area w c below j))
-        ∙ go c (eqb c i))
-      where
-        go : (c : ℕ) (b : Bool)
-            → configurationOf (cond b (closedBy closing k) (configIn (r .channels) c)) (cond b area (areaIn (r .channels) c))
-            ≡ cond b (configurationOf (closedBy closing k) area) (configurationOf (configIn (r .channels) c) (areaIn (r .channels) c))
-        go c true = refl
-        go c false = refl
-
-    left-governs : (routing closing : Bool) → routes m ≡ routing → closes m ≡ closing → (c : ℕ)
-        → channelsOf (recordIn (left routing closing) risen) c ≡ governingAfter m 0 (channelsOf r) c
-    unfolding governingAfter governs
-    left-governs true true e f c =
-        stored-governs true c ∙ rw (e, f, configuration-closed (closedBy true k) area refl)
-    left-governs true false e f c =
-        stored-governs false c
-        ∙ rw (e, f) (ap (λ (v : Configuration). cond (eqb c i) v (channelsOf r c)) (rw e at config))
-    left-governs false true e f c = shut-governs risen c ∙ rw (e, f)
-    left-governs false false e f c = rw (e, f)
-
-    left-sound : (routing closing : Bool) → consistent (recordIn (left routing closing) risen) ≡ true
-    left-sound true closing =
-        let channels = storedIn (r .channels) i (closedBy closing k) area in
-        consistent-of (recordIn channels risen)
-        (record { channels = length-stored (r .channels) (z .channels) i (channel-below m) (closedBy closing k) area w; meters = refl })
-        (risen-within channels)
-        (consistent-changed (r .channels) channels i (closedBy closing k)
-        (config-stored (r .channels) (z .channels) i (channel-below m) (closedBy closing k) area w) (consistent-channels r good) (consistent-closed closing k sound))
-    left-sound false true = shut-sound risen refl good (risen-within (set (r .channels) i 0))
-    left-sound false false =
-        consistent-of (recordIn (r .channels) risen) (record { channels = z .channels; meters = refl }) (risen-within (r .channels))
-        (consistent-channels r good)
-
-    pub answered-accepted :
-        AnsweredWith 0 r m s (outcome (recordIn (left (routes m) (closes m)) risen) (replyOf m 0 (configurationOf k area)))
-        (slicesAfter m 0 (configurationOf k area) s)
-    unfolding sumsAfter
-    answered-accepted =
-        record {
-          reply = ap (replyOf m 0) config;
-          slices = ap (λ (v : Configuration). slicesAfter m 0 v s) config;
-          meters = risen-added (left (routes m) (closes m));
-          channels = left-governs (routes m) (closes m) refl refl;
-          sound = left-sound (routes m) (closes m) ∙ sym good;
-          kept = λ q. absurd (false≢true (sym q));
-        }
-
--- ---- the answer of a judged message: what was written for its number, and the record settled for it
+-- ---- a message judged on itself, with what governs it
 
 module _ (r : Receiver) (z : Sized r) (m : List ℕ) (s : Slices) (f : Found) (area : List ℕ) (w : length area ≡ areaSize)
-    (governed : Governed r m f area) (n : ℕ) (number : n ≡ messageNumber r m (lengths s)) where
+    (governed : Governed r m f area) (own : ℕ) (judged : own ≡ ownNumberOf r m (length (s .assembly)) (s .assembly)) where
   abbrev v : Configuration
   v = configurationOf (f .config) area
 
-  -- the record after it
-  abbrev next : ℕ → Counts → Receiver
-  next n d =
-      recordIn (settledIn n (routes m) (closes m) (channelOf m) (f .config) area (r .channels)) (risenFrom (readingsOf r) d)
+  abbrev governing : Configuration
+  governing = governs m (channelsOf r)
 
-  by-number : (a b : Bool) → eqb n 0 ≡ a → eqb n 19 ≡ b
-      → AnsweredWith n r m s (outcome (next n (countsWith n (chunkOf m) v)) (replyOf m n v)) (slicesAfter m n v s)
-  unfolding settledIn slicesAfter
-  by-number true b e q =
-      let none = eqb-true n 0 e in
-      let accepted = sym number ∙ none in
-      let found = accepted-found r m (lengths s) accepted f area governed in
-      subst (λ (n : ℕ). AnsweredWith n r m s (outcome (next n (countsWith n (chunkOf m) v)) (replyOf m n v)) (slicesAfter m n v s)) (sym none)
-      (answered-accepted r z m s accepted (f .config) area w (governed .config found) (governed .sound found))
-  by-number false true e q =
-      let nineteen = eqb-true n 19 q in
-      rw (nineteen, risen-none r (z .meters))
-      (answered-closed r z m s v (number-good r m (lengths s) 19 (sym number ∙ nineteen) refl))
-  by-number false false e q = rw (e, q, risen-none r (z .meters)) (answered-refused r m s n v e q)
+  abbrev a : List ℕ
+  a = s .assembly
 
-  -- what is written for it, by the test for 0
-  abbrev counts : Bool → Counts
-  counts a = cond a (countsOf (chunkOf m) v) noCounts
+  abbrev g : Gathering
+  g = gatheringOf r a
 
-  module _ (d : Counts) (s₁ : Slices) (written : WrittenBy n m v s d s₁) where
-    -- the risen meters fit their fields: within the limit where the message is accepted, else as they were
-    pub risen-fits : (getD (r .meters) 0 0 < 2 ^ 64) × (getD (r .meters) 1 0 < 2 ^ 64) × (getD (r .meters) 2 0 < 2 ^ 64)
-        → (getD (r .meters) 0 0 + d .«lit_time» < 2 ^ 64) × (getD (r .meters) 1 0 + d .points < 2 ^ 64) × (getD (r .meters) 2 0 + d .«lit_points» < 2 ^ 64)
-    risen-fits fits = rw (written .counts) (go (eqb n 0) refl)
+  -- where it passed, something was found to govern it, and there is room for a fragment
+  module _ (passed : own ≡ 0) where
+    pub own-zero : ownNumberOf r m (length a) a ≡ 0
+    own-zero = sym judged ∙ passed
+
+    pub sound-record : consistent r ≡ true
+    sound-record = passed-good r m (length a) a own-zero
+
+    pub passed-header : headerNumber m ≡ 0
+    passed-header = passed-own r m (length a) a own-zero .header
+
+    found : f .number ≡ 0
+    found = passed-found r m (length a) a own-zero f area governed
+
+    same-governed : v ≡ governing
+    same-governed = governed .config found
+
+    pub room : roomNumber m v g (length a) ≡ 0
+    room = subst (λ (x : Configuration). roomNumber m x g (length a) ≡ 0) (sym same-governed) (passed-own r m (length a) a own-zero .room)
+
+    fragment-fits : isFragment (typeOf m) v ≡ true → endIn m g ≤ length a
+    fragment-fits e = room-ends m v g (length a) room e .0
+
+  -- no number of a last fragment itself is the whole's
+  unlike : isLast m ≡ true → ofWhole own ≡ false
+  unlike last = ap ofWhole judged ∙ go (consistent r)
+    where
+      go : (b : Bool) → ofWhole (cond b (ownNumber m (length a) (standingOf r a)) 1) ≡ false
+      go true = own-not-whole m (length a) (standingOf r a)
+      go false = refl
+
+  -- ---- its fragment taken, and the whole tried and drawn
+
+  module _ (end : ℕ) (a₁ : List ℕ) (took : TakenIn own m v g a end a₁) where
+    -- the frame that it completes is the first octets of the slice
+    whole-is : own ≡ 0 → wholeIn m v (take end a₁) ≡ wholeOf m v g
+    unfolding wholeOf
+    whole-is passed = go (completes m v) refl
       where
-        go : (b : Bool) → eqb n 0 ≡ b
-            → (getD (r .meters) 0 0 + counts b .«lit_time» < 2 ^ 64) × (getD (r .meters) 1 0 + counts b .points < 2 ^ 64) × (getD (r .meters) 2 0 + counts b .«lit_points» < 2 ^ 64)
+        go : (b : Bool) → completes m v ≡ b → cond b (chunk 2 (take end a₁)) (chunkOf m) ≡ cond b (chunk 2 (soFar m g)) (chunkOf m)
+        go false e = refl
         go true e =
-            let accepted = sym number ∙ eqb-true n 0 e in
-            let found = accepted-found r m (lengths s) accepted f area governed in
-            let within = within-each (sumsOf (recordIn (r .channels) (risenFrom (readingsOf r) (countsOf (chunkOf m) v))))
-            (risen-within r z m s accepted (f .config) area w (governed .config found) (governed .sound found) (r .channels)) in
-            (omega (arith, within .0), omega (arith, within .1), omega (arith, within .2))
-        go false e = rw (add-zero (getD (r .meters) 0 0), add-zero (getD (r .meters) 1 0), add-zero (getD (r .meters) 2 0)) fits
+            let fragment = and-right (isLast m) (isFragment (typeOf m) v) e in
+            let both : taken own m v ≡ true = rw (passed, fragment) in
+            let ends : end ≡ endIn m g = took .ends ∙ rw both in
+            let put : a₁ ≡ octetsPut a (placeIn m g) (dataOf m) = took .assembly ∙ rw both in
+            ap (chunk 2) ((λ i. take (ends i) (put i)) ∙ soFar-put m (gatheredIn (r .gathered)) a (fragment-fits passed fragment))
 
-    pub answered : Answered r m s (outcome (next n d) (replyOf m n v)) s₁
-    answered =
-        rw (written .counts, written .slices)
-        (subst (λ (x : ℕ). AnsweredWith x r m s (outcome (next n (countsWith n (chunkOf m) v)) (replyOf m n v)) (slicesAfter m n v s)) number
-        (by-number (eqb n 0) (eqb n 19) refl refl))
+    module _ (d : Done) (s₁ : Slices) (concluded : Concluded own (wholeIn m v (take end a₁)) v (sumsOf r) s d s₁) where
+      abbrev n : ℕ
+      n = d .number
+
+      abbrev whole : ℕ
+      whole = wholeNumber (wholeOf m v g) v (lengths s) (sumsOf r)
+
+      number-first : n ≡ first own whole
+      number-first = concluded .number ∙ go (eqb own 0) refl
+        where
+          go : (b : Bool) → eqb own 0 ≡ b → cond b (wholeNumber (wholeIn m v (take end a₁)) v (lengths s) (sumsOf r)) own ≡ cond b whole own
+          go true e = ap (λ (k : Chunk). wholeNumber k v (lengths s) (sumsOf r)) (whole-is (eqb-true own 0 e))
+          go false e = refl
+
+      -- the number is the message's
+      pub numbered : n ≡ messageNumber r m s
+      unfolding numberOf
+      numbered = number-first ∙ go (eqb own 0) (consistent r) refl refl
+        where
+          go : (b c : Bool) → eqb own 0 ≡ b → consistent r ≡ c → cond b whole own ≡ messageNumber r m s
+          go true c e h =
+              let passed = eqb-true own 0 e in
+              let good = sound-record passed in
+              let zero : ownNumber m (length a) (standingOf r a) ≡ 0 = rw good at (own-zero passed) in
+              rw (good, zero) (ap (λ (x : Configuration). wholeNumber (wholeOf m x g) x (lengths s) (sumsOf r)) (same-governed passed))
+          go false true e h =
+              let same : own ≡ ownNumber m (length a) (standingOf r a) = judged ∙ rw h in rw (h, ← same, e)
+          go false false e h = judged ∙ rw h
+
+      -- an acceptance passed its own checks
+      accepted-own : n ≡ 0 → own ≡ 0
+      accepted-own e = first-zero-left own whole (sym number-first ∙ e)
+
+      taken-is : takes m n v ≡ taken own m v
+      taken-is =
+          ap (λ (k : ℕ). takes m k v) number-first
+          ∙ takes-taken m own v g (lengths s) (sumsOf r) (λ passed. consistent-limit r (sound-record passed)) unlike
+
+      takes-fits : takes m n v ≡ true → endIn m g ≤ length a
+      takes-fits e =
+          let both = sym taken-is ∙ e in
+          fragment-fits (eqb-true own 0 (and-left (eqb own 0) (isFragment (typeOf m) v) both)) (and-right (eqb own 0) (isFragment (typeOf m) v) both)
+
+      -- the octets of a fragment that was taken end where it was put
+      pub end-is : takes m n v ≡ true → end ≡ endIn m g
+      end-is e = took .ends ∙ rw (sym taken-is ∙ e)
+
+      pub counts-are : d .counts ≡ countsWith n (wholeOf m v g) v
+      counts-are = concluded .counts ∙ go (eqb n 0) refl
+        where
+          go : (b : Bool) → eqb n 0 ≡ b → cond b (countsOf (wholeIn m v (take end a₁)) v) noCounts ≡ cond b (countsOf (wholeOf m v g) v) noCounts
+          go true e = ap (λ (k : Chunk). countsOf k v) (whole-is (accepted-own (eqb-true n 0 e)))
+          go false e = refl
+
+      drawn-are : s₁ ≡ cond (eqb n 0) (drawn (wholeOf m v g) v s) s
+      drawn-are = concluded .slices ∙ go (eqb n 0) refl
+        where
+          go : (b : Bool) → eqb n 0 ≡ b → cond b (drawn (wholeIn m v (take end a₁)) v s) s ≡ cond b (drawn (wholeOf m v g) v s) s
+          go true e = ap (λ (k : Chunk). drawn k v s) (whole-is (accepted-own (eqb-true n 0 e)))
+          go false e = refl
+
+      slices-are : slices (s₁ .rows) (s₁ .levels) a₁ ≡ slicesAfter m n v g s
+      unfolding slicesAfter assemblyAfter
+      slices-are =
+          let put : a₁ ≡ cond (takes m n v) (octetsPut a (placeIn m g) (dataOf m)) a = took .assembly ∙ rw taken-is in
+          λ i. slices (drawn-are i .rows) (drawn-are i .levels) (put i)
+
+      -- ---- what was found governs it where that counts
+
+      governed-same : {X : Type 0} (F : Configuration → X) → (eqb n 0 ≡ false → (isLast m && ofWhole n) ≡ false → F v ≡ F governing) → F v ≡ F governing
+      governed-same F other = go (eqb own 0) refl
+        where
+          go : (b : Bool) → eqb own 0 ≡ b → F v ≡ F governing
+          go true e = ap F (same-governed (eqb-true own 0 e))
+          go false e =
+              let same : n ≡ own = number-first ∙ rw e in
+              other (rw same e) (rw same (outside (isLast m) refl))
+            where
+              outside : (l : Bool) → isLast m ≡ l → (l && ofWhole own) ≡ false
+              outside true h = unlike h
+              outside false h = refl
+
+      -- ---- the record that is left
+
+      abbrev next : Receiver
+      next =
+          recordIn (settledIn n (routes m) (closes m) (channelOf m) (f .config) area (r .channels)) (risenFrom (readingsOf r) (d .counts))
+          (gatheredBy (gatheredAfter m n v (gatheredIn (r .gathered))))
+
+      risen-is : sumsOf next ≡ sumsAfter m n v g (sumsOf r)
+      unfolding sumsAfter addedBy
+      risen-is = rw counts-are (go (eqb n 0))
+        where
+          go : (b : Bool)
+              → plus (sumsOf r) (added (cond b (countsOf (wholeOf m v g) v) noCounts)) ≡ cond b (plus (sumsOf r) (addedBy (wholeOf m v g) v)) (sumsOf r)
+          go true = refl
+          go false = plus-zero (sumsOf r)
+
+      -- nothing of it changes in a refusal that changes no record
+      kept-record : changes m n ≡ false → next ≡ r
+      unfolding settledIn gatheredAfter
+      kept-record unchanged =
+          let u = unchanged-by m n unchanged in
+          let none : d .counts ≡ noCounts = counts-are ∙ rw (u .not-0) in
+          rw (none, takes-none m n v (u .not-0) (u .not-whole), u .not-0, u .not-19, u .not-25, u .not-26)
+          (λ i. recordIn (r .channels) (risen-none r (z .meters) i) (four-gathered (r .gathered) (z .gathered) i))
+
+      pub sized-next : Sized next
+      sized-next =
+          record {
+            channels = length-settled n (routes m) (closes m) (channelOf m) (f .config) area (r .channels) (channel-below m) w (z .channels);
+            meters = refl;
+            gathered = refl;
+          }
+
+      within-next : consistent r ≡ true → overLimit (sumsOf next) ≡ false
+      unfolding sumsAfter
+      within-next good =
+          let number : n ≡ numberOf m (lengths s) (standingOf r a) = numbered ∙ rw good in
+          ap overLimit (risen-is ∙ governed-same (λ (x : Configuration). sumsAfter m n x g (sumsOf r)) (λ e h. rw e))
+          ∙ ap (λ (k : ℕ). overLimit (sumsAfter m k governing g (sumsOf r))) number
+          ∙ sumsAfter-within m (lengths s) (standingOf r a) (consistent-limit r good)
+
+      sound-next : consistent next ≡ consistent r
+      sound-next = go (consistent r) refl
+        where
+          go : (b : Bool) → consistent r ≡ b → consistent next ≡ consistent r
+          go true good =
+              consistent-of next sized-next (within-next good)
+              (settled-consistent r (z .channels) m (consistent-channels r good) (f .config) area w n (λ e. governed .sound (found (accepted-own e))))
+              ∙ sym good
+          go false bad = let one : n ≡ 1 = numbered ∙ rw bad in ap consistent (kept-record (rw one (and-false (isLast m))))
+
+      pub answered : Answered r m s (outcome next (replyOf m n v g)) (slices (s₁ .rows) (s₁ .levels) a₁)
+      unfolding replyOf slicesAfter assemblyAfter sumsAfter gatheringAfter
+      answered =
+          subst (λ (k : ℕ). AnsweredWith k r m s (outcome next (replyOf m n v g)) (slices (s₁ .rows) (s₁ .levels) a₁)) numbered
+          (record {
+            reply = governed-same (λ (x : Configuration). replyOf m n x g) (λ e h. rw e);
+            slices =
+                slices-are
+                ∙ governed-same (λ (x : Configuration). slicesAfter m n x g s) (λ e h. rw (takes-none m n v e h, takes-none m n governing e h, e));
+            meters = risen-is ∙ governed-same (λ (x : Configuration). sumsAfter m n x g (sumsOf r)) (λ e h. rw e);
+            channels =
+                settled-governs r (z .channels) m (risenFrom (readingsOf r) (d .counts)) (gatheredBy (gatheredAfter m n v (gatheredIn (r .gathered)))) (f .config) area w n
+                (λ e. same-governed (accepted-own e));
+            gathering =
+                ap (gatheringIn (gatheredAfter m n v (gatheredIn (r .gathered)))) (took .assembly ∙ rw taken-is)
+                ∙ gatheringAfter-in m n v (gatheredIn (r .gathered)) a takes-fits
+                ∙ governed-same (λ (x : Configuration). gatheringAfter m n x g) (λ e h. rw (takes-none m n v e h, takes-none m n governing e h));
+            sound = sound-next;
+            kept = kept-record;
+          })
+
+      -- the risen meters fit their fields: within the limit where the message is accepted, else as they were
+      pub risen-fits : (getD (r .meters) 0 0 < 2 ^ 64) × (getD (r .meters) 1 0 < 2 ^ 64) × (getD (r .meters) 2 0 < 2 ^ 64)
+          → (getD (r .meters) 0 0 + d .counts .«lit_time» < 2 ^ 64) × (getD (r .meters) 1 0 + d .counts .points < 2 ^ 64) × (getD (r .meters) 2 0 + d .counts .«lit_points» < 2 ^ 64)
+      risen-fits fits = go (eqb n 0) refl
+        where
+          go : (b : Bool) → eqb n 0 ≡ b
+              → (getD (r .meters) 0 0 + d .counts .«lit_time» < 2 ^ 64) × (getD (r .meters) 1 0 + d .counts .points < 2 ^ 64) × (getD (r .meters) 2 0 + d .counts .«lit_points» < 2 ^ 64)
+          go true e =
+              let within = within-each (sumsOf next) (within-next (sound-record (accepted-own (eqb-true n 0 e)))) in
+              (omega (arith, within .0), omega (arith, within .1), omega (arith, within .2))
+          go false e =
+              let none : d .counts ≡ noCounts = counts-are ∙ rw e in
+              rw (none, add-zero (getD (r .meters) 0 0), add-zero (getD (r .meters) 1 0), add-zero (getD (r .meters) 2 0)) fits
+
+-- ---- every message that something governs has an answer
+
+pub answer-of : (r : Receiver) → Sized r → (m : List ℕ) (s : Slices) (f : Found) (area : List ℕ) → length area ≡ areaSize → Governed r m f area
+    → (o : Outcome) × (s₁ : Slices) × Answered r m s o s₁ × Sized (o .receiver)
+answer-of r z m s f area w governed =
+    let v = configurationOf (f .config) area in
+    let g = gatheringOf r (s .assembly) in
+    let own = ownNumberOf r m (length (s .assembly)) (s .assembly) in
+    let a₁ = cond (taken own m v) (octetsPut (s .assembly) (placeIn m g) (dataOf m)) (s .assembly) in
+    let end = cond (taken own m v) (endIn m g) 0 in
+    let k = wholeIn m v (take end a₁) in
+    let n = first own (wholeNumber k v (lengths s) (sumsOf r)) in
+    let d : Done = record { number = n; counts = countsWith n k v } in
+    let took : TakenIn own m v g (s .assembly) end a₁ = record { assembly = refl; ends = refl } in
+    let concluded : Concluded own k v (sumsOf r) s d (cond (eqb n 0) (drawn k v s) s) = record { number = refl; counts = refl; slices = refl } in (
+      _,
+      _,
+      answered r z m s f area w governed own refl end a₁ took d (cond (eqb n 0) (drawn k v s) s) concluded,
+      sized-next r z m s f area w governed own refl end a₁ took d (cond (eqb n 0) (drawn k v s) s) concluded,
+    )

@@ -27,14 +27,15 @@ use Rattle.receiver.proofs.place.mewkoast_readings_on.Reads as readings
 
 -- ---- the calls
 
--- a record that a host lends: references to its octets and its meters
+-- a record that a host lends: references to its octets, its meters and the numbers of what is gathered
 pub record RecordRefs : Type 0 where
   pub channels : RefT (List ℕ)
   pub meters : RefT (List ℕ)
+  pub gathered : RefT (List ℕ)
 
 -- what they hold
 abbrev pub kept : RecordRefs → Receiver
-kept at = recordIn (now (at .channels)) (now (at .meters))
+kept at = recordIn (now (at .channels)) (now (at .meters)) (now (at .gathered))
 
 -- start; in place on a record that is lent, whatever it holds, whose arrays have their lengths
 pub data StartCall (s : Sums) (o : Outcome) : Type 0 where
@@ -42,28 +43,29 @@ pub data StartCall (s : Sums) (o : Outcome) : Type 0 where
       → start-reads.Learnt κs (s .litTime, (s .points, (s .litPoints, tt))) o (s .litTime, (s .points, (s .litPoints, tt))) → StartCall s o
   c : (κs : Lfts 0)
       → c-start-reads.Learnt κs (s .litTime, (s .points, (s .litPoints, tt))) o (s .litTime, (s .points, (s .litPoints, tt))) → StartCall s o
-  inPlace : (κs : Lfts 2) (at left : RecordRefs) → sized (kept at) ≡ true
-      → begin-on-reads.Learnt κs (at .channels, (at .meters, (s .litTime, (s .points, (s .litPoints, tt))))) (o .reply) (left .channels, (left .meters, (s .litTime, (s .points, (s .litPoints, tt)))))
+  inPlace : (κs : Lfts 3) (at left : RecordRefs) → sized (kept at) ≡ true
+      → begin-on-reads.Learnt κs (at .channels, (at .meters, (at .gathered, (s .litTime, (s .points, (s .litPoints, tt)))))) (o .reply) (left .channels, (left .meters, (left .gathered, (s .litTime, (s .points, (s .litPoints, tt))))))
       → o .receiver ≡ kept left → StartCall s o
 
 -- the slices lent with a call, at its beginning or at its end
 pub record SliceRefs : Type 0 where
   pub rows : RefT (List ℤ)
   pub levels : RefT (List ℕ)
+  pub assembly : RefT (List ℕ)
 
 -- what they hold
 abbrev pub held : SliceRefs → Slices
-held lent = slices (now (lent .rows)) (now (lent .levels))
+held lent = slices (now (lent .rows)) (now (lent .levels)) (now (lent .assembly))
 
 pub data MessageCall (r : Receiver) (octets : RefT (List ℕ)) (lent : SliceRefs) (o : Outcome) (left : SliceRefs) : Type 0 where
-  rattle : (κs : Lfts 3)
-      → message-reads.Learnt κs (r, (octets, (lent .rows, (lent .levels, tt)))) o (r, (octets, (left .rows, (left .levels, tt))))
+  rattle : (κs : Lfts 4)
+      → message-reads.Learnt κs (r, (octets, (lent .rows, (lent .levels, (lent .assembly, tt))))) o (r, (octets, (left .rows, (left .levels, (left .assembly, tt)))))
       → MessageCall r octets lent o left
-  c : (κs : Lfts 3)
-      → c-message-reads.Learnt κs (r, (octets, (lent .rows, (lent .levels, tt)))) o (r, (octets, (left .rows, (left .levels, tt))))
+  c : (κs : Lfts 4)
+      → c-message-reads.Learnt κs (r, (octets, (lent .rows, (lent .levels, (lent .assembly, tt))))) o (r, (octets, (left .rows, (left .levels, (left .assembly, tt)))))
       → MessageCall r octets lent o left
-  inPlace : (κs : Lfts 5) (at next : RecordRefs) → kept at ≡ r
-      → offer-on-reads.Learnt κs (at .channels, (at .meters, (octets, (lent .rows, (lent .levels, tt))))) (o .reply) (next .channels, (next .meters, (octets, (left .rows, (left .levels, tt)))))
+  inPlace : (κs : Lfts 7) (at next : RecordRefs) → kept at ≡ r
+      → offer-on-reads.Learnt κs (at .channels, (at .meters, (at .gathered, (octets, (lent .rows, (lent .levels, (lent .assembly, tt))))))) (o .reply) (next .channels, (next .meters, (next .gathered, (octets, (left .rows, (left .levels, (left .assembly, tt)))))))
       → o .receiver ≡ kept next → MessageCall r octets lent o left
 
 pub data ReadingsCall (r : Receiver) (q : Readings) : Type 0 where

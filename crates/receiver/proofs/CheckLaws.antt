@@ -1,8 +1,8 @@
 -- Laws about the checks in their order: what a message that is accepted has passed, and what it leaves of the meters.
-use mathlib.Core.Path.{_≡_, refl}
+use mathlib.Core.Path.{_≡_, refl, ap}
 use Prim.Native.Nat.{ℕ, _<_, _≤_}
 use native.Mathlib.Nat.{add-zero, add-assoc, le-refl, le-trans}
-use mathlib.Core.Bool.{Bool, true, false, cond, not, _||_}
+use mathlib.Core.Bool.{Bool, true, false, cond, not, _&&_, _||_}
 use mathlib.Core.List.{List}
 use native.Mathlib.Omega.{arith}
 use lib.ListN.{length, length-drop}
@@ -11,43 +11,49 @@ use borrow.Author.Tests.{eqb-true, ltb-false}
 use Rattle.tags.specs.Choice.{refuse}
 use Rattle.tags.specs.ChoiceLaws.{and-left, or-false-left, or-false-right, first-zero-left, first-zero-right, refuse-zero}
 use Rattle.receiver.specs.Message.{totalSize, topBit, channelOf, typeOf, configured, routes, dataStart, dataOf}
-use Rattle.receiver.specs.Modes.{channelCount}
-use Rattle.receiver.specs.Governing.{Configuration}
+use Rattle.receiver.specs.Modes.{exclusiveMode, channelCount}
+use Rattle.receiver.specs.Governing.{Governing, Configuration, routedBy, meant}
 use Rattle.receiver.specs.Slices.{Lent}
 use Rattle.receiver.specs.Chunk.{chunkOf, knownType}
+use Rattle.receiver.specs.Gathering.{Gathering, wholeOf}
 use Rattle.receiver.specs.Meters.{Sums, sums, plus, limit, overLimit, NotAbove, addedBy}
-use Rattle.receiver.specs.Checks.{leastMessage, largestMessage, wrongLength, passesEnd, headerNumber, routeNumber, holderNumber, closedNumber, governs, matchNumber, contentNumber, meterNumber, numberOf}
+use Rattle.receiver.specs.Checks.{leastMessage, largestMessage, mostOctets, wrongLength, passesEnd, headerNumber, routingNumber, routeNumber, heldElsewhere, holderNumber, closedNumber, governs, sequelNumber, matchNumber, roomNumber, contentNumber, meterNumber, Standing, governedIn, ownNumber, wholeNumber, numberOf}
 use Rattle.receiver.specs.Effects.{sumsAfter}
-use Rattle.receiver.specs.Steps.{mostOctets}
 
 -- ---- the order: every check was passed
 
-pub record Passed (m : List ℕ) (lent : Lent) (g : ℕ → Configuration) (s : Sums) : Type 0 where
+-- those on the message itself
+pub record OwnPassed (m : List ℕ) (assembly : ℕ) (b : Standing) : Type 0 where
   pub header : headerNumber m ≡ 0
   pub route : routeNumber m ≡ 0
-  pub holder : holderNumber m g ≡ 0
-  pub closed : closedNumber m g ≡ 0
-  pub match : matchNumber (chunkOf m) (governs m g) ≡ 0
-  pub content : contentNumber (chunkOf m) (governs m g) lent ≡ 0
-  pub meters : meterNumber (chunkOf m) (governs m g) s ≡ 0
+  pub holder : holderNumber m (b .channels) ≡ 0
+  pub closed : closedNumber m (b .channels) ≡ 0
+  pub sequel : sequelNumber m (governedIn m b) (b .gathering) ≡ 0
+  pub matched : matchNumber (chunkOf m) (governedIn m b) ≡ 0
+  pub room : roomNumber m (governedIn m b) (b .gathering) assembly ≡ 0
 
-pub accepted-passed : (m : List ℕ) (lent : Lent) (g : ℕ → Configuration) (s : Sums) → numberOf m lent g s ≡ 0 → Passed m lent g s
-unfolding numberOf
-accepted-passed m lent g s e =
+pub own-passed : (m : List ℕ) (assembly : ℕ) (b : Standing) → ownNumber m assembly b ≡ 0 → OwnPassed m assembly b
+unfolding ownNumber
+own-passed m assembly b e =
     let r = first-zero-right (headerNumber m) _ e in
     let h = first-zero-right (routeNumber m) _ r in
-    let c = first-zero-right (holderNumber m g) _ h in
-    let k = first-zero-right (closedNumber m g) _ c in
-    let b = first-zero-right (matchNumber (chunkOf m) (governs m g)) _ k in
+    let c = first-zero-right (holderNumber m (b .channels)) _ h in
+    let q = first-zero-right (closedNumber m (b .channels)) _ c in
+    let k = first-zero-right (sequelNumber m (governedIn m b) (b .gathering)) _ q in
     record {
       header = first-zero-left (headerNumber m) _ e;
       route = first-zero-left (routeNumber m) _ r;
-      holder = first-zero-left (holderNumber m g) _ h;
-      closed = first-zero-left (closedNumber m g) _ c;
-      match = first-zero-left (matchNumber (chunkOf m) (governs m g)) _ k;
-      content = first-zero-left (contentNumber (chunkOf m) (governs m g) lent) _ b;
-      meters = first-zero-right (contentNumber (chunkOf m) (governs m g) lent) _ b;
+      holder = first-zero-left (holderNumber m (b .channels)) _ h;
+      closed = first-zero-left (closedNumber m (b .channels)) _ c;
+      sequel = first-zero-left (sequelNumber m (governedIn m b) (b .gathering)) _ q;
+      matched = first-zero-left (matchNumber (chunkOf m) (governedIn m b)) _ k;
+      room = first-zero-right (matchNumber (chunkOf m) (governedIn m b)) _ k;
     }
+
+-- and of an accepted one those on the whole too
+pub accepted-own : (m : List ℕ) (lent : Lent) (b : Standing) → numberOf m lent b ≡ 0 → ownNumber m (lent .assembly) b ≡ 0
+unfolding numberOf
+accepted-own m lent b e = first-zero-left (ownNumber m (lent .assembly) b) _ e
 
 -- ---- the header
 
@@ -83,6 +89,38 @@ routing-start m e = rw (and-left (configured m) _ e) (omega arith)
 pub channel-below : (m : List ℕ) → channelOf m < channelCount
 channel-below m = omega arith
 
+-- ---- two messages on one channel that route alike
+
+module _ (m q : List ℕ) (channel : channelOf m ≡ channelOf q) (routing : routes m ≡ routes q)
+    (routed : routes q ≡ true → routedBy m ≡ routedBy q) where
+  -- what depends on Routing, and only with Routing on what that brings, is the same of both
+  routed-same : {A : Type 0} (x : Bool → Governing → A) → ((g h : Governing) → x false g ≡ x false h)
+      → x (routes m) (routedBy m) ≡ x (routes q) (routedBy q)
+  routed-same x without = rw routing (go (routes q) refl)
+    where
+      go : (b : Bool) → routes q ≡ b → x b (routedBy m) ≡ x b (routedBy q)
+      go true e = ap (x true) (routed e)
+      go false e = without (routedBy m) (routedBy q)
+
+  -- so they are governed alike, and 6 to 16 find the same
+  pub routed-governs : (c : ℕ → Configuration) → governs m c ≡ governs q c
+  unfolding governs
+  routed-governs c = rw channel (routed-same (λ b g. cond b (meant g) (c (channelOf q))) (λ g h. refl))
+
+  pub routed-route : routeNumber m ≡ routeNumber q
+  unfolding routeNumber
+  routed-route = routed-same (λ b g. cond b (routingNumber (g .mode) (g .service) (g .tags)) 0) (λ g h. refl)
+
+  pub routed-holder : (c : ℕ → Configuration) → holderNumber m c ≡ holderNumber q c
+  unfolding holderNumber
+  routed-holder c =
+      let held : Governing → Bool = λ g. exclusiveMode (g .mode) && heldElsewhere c (g .mode) (channelOf q) channelCount in
+      rw channel (routed-same (λ b g. refuse (b && held g) 15) (λ g h. refl))
+
+  pub routed-closed : (c : ℕ → Configuration) → closedNumber m c ≡ closedNumber q c
+  unfolding closedNumber
+  routed-closed c = rw (routing, channel)
+
 -- ---- sums
 
 pub plus-zero : (s : Sums) → plus s (sums 0 0 0) ≡ s
@@ -109,27 +147,30 @@ not-above-trans a b c p q = (le-trans (p .0) (q .0), le-trans (p .1) (q .1), le-
 -- ---- the meters over one message
 
 -- an accepted message leaves every meter within its limit
-pub accepted-within : (m : List ℕ) (lent : Lent) (g : ℕ → Configuration) (s : Sums) → numberOf m lent g s ≡ 0
-    → overLimit (plus s (addedBy (chunkOf m) (governs m g))) ≡ false
-unfolding meterNumber
-accepted-within m lent g s e = refuse-zero _ 23 (lit≤ tt) (accepted-passed m lent g s e .meters)
+pub accepted-within : (m : List ℕ) (lent : Lent) (b : Standing) → numberOf m lent b ≡ 0
+    → overLimit (plus (b .sums) (addedBy (wholeOf m (governedIn m b) (b .gathering)) (governedIn m b))) ≡ false
+unfolding numberOf wholeNumber meterNumber
+accepted-within m lent b e =
+    refuse-zero _ 23 (lit≤ tt)
+    (first-zero-right (contentNumber (wholeOf m (governedIn m b) (b .gathering)) (governedIn m b) lent) _
+    (first-zero-right (ownNumber m (lent .assembly) b) _ e))
 
 -- the meters stay within their limit over one message
-pub sumsAfter-within : (m : List ℕ) (lent : Lent) (g : ℕ → Configuration) (s : Sums) → overLimit s ≡ false
-    → overLimit (sumsAfter m (numberOf m lent g s) (governs m g) s) ≡ false
+pub sumsAfter-within : (m : List ℕ) (lent : Lent) (b : Standing) → overLimit (b .sums) ≡ false
+    → overLimit (sumsAfter m (numberOf m lent b) (governedIn m b) (b .gathering) (b .sums)) ≡ false
 unfolding sumsAfter
-sumsAfter-within m lent g s h = go (eqb (numberOf m lent g s) 0) refl
+sumsAfter-within m lent b h = go (eqb (numberOf m lent b) 0) refl
   where
-    go : (b : Bool) → eqb (numberOf m lent g s) 0 ≡ b
-        → overLimit (cond b (plus s (addedBy (chunkOf m) (governs m g))) s) ≡ false
-    go true p = accepted-within m lent g s (eqb-true _ 0 p)
+    go : (t : Bool) → eqb (numberOf m lent b) 0 ≡ t
+        → overLimit (cond t (plus (b .sums) (addedBy (wholeOf m (governedIn m b) (b .gathering)) (governedIn m b))) (b .sums)) ≡ false
+    go true p = accepted-within m lent b (eqb-true _ 0 p)
     go false p = h
 
 -- no meter falls over one message, whatever its number
-pub sumsAfter-grows : (m : List ℕ) (n : ℕ) (v : Configuration) (s : Sums) → NotAbove s (sumsAfter m n v s)
+pub sumsAfter-grows : (m : List ℕ) (n : ℕ) (v : Configuration) (w : Gathering) (s : Sums) → NotAbove s (sumsAfter m n v w s)
 unfolding sumsAfter
-sumsAfter-grows m n v s = go (eqb n 0)
+sumsAfter-grows m n v w s = go (eqb n 0)
   where
-    go : (b : Bool) → NotAbove s (cond b (plus s (addedBy (chunkOf m) v)) s)
+    go : (b : Bool) → NotAbove s (cond b (plus s (addedBy (wholeOf m v w) v)) s)
     go true = omega arith
     go false = omega arith

@@ -25,10 +25,10 @@ use Rattle.receiver.specs.Governing.{Configuration}
 use Rattle.receiver.specs.Slices.{Slices, Lent, slices, lengths}
 use Rattle.receiver.specs.Chunk.{Chunk, chunk, isDrawing, isDimming, duration, body, startSamples, litPointsFor, pointsOf, litPointsOf, levelsOf}
 use Rattle.receiver.specs.Meters.{addedBy}
-use Rattle.receiver.specs.Checks.{wrongCount, drawNumber, dimNumber, contentNumber}
+use Rattle.receiver.specs.Checks.{mostOctets, wrongCount, drawNumber, dimNumber, contentNumber}
 use Rattle.receiver.specs.Effects.{drawn}
 use Rattle.receiver.specs.Record.{modeIn, configurationOf}
-use Rattle.receiver.specs.Steps.{mostOctets, countsOf, noCounts}
+use Rattle.receiver.specs.Steps.{countsOf, noCounts}
 use Rattle.receiver.specs.declared.Config.{Config}
 use Rattle.receiver.specs.declared.draw.Counts.{Counts}
 use Rattle.receiver.proofs.RecordLaws.{configuration-mode, graphic-sample, dimming-mapping}
@@ -138,7 +138,7 @@ module _ (t : ℕ) (octets : List ℕ) (k : Config) (area : List ℕ) (s : Slice
       (drawnBy (sampleIn (k .size) (k .colours) area) (body this) (s .rows))
       (s .rows)
       → (_≡_ {A = Counts} (record { «lit_time» = time; points = points; «lit_points» = lit; levels = 0 }) (countsOf this (configurationOf k area)))
-      × (slices rows₁ (s .levels) ≡ drawn this (configurationOf k area) s)
+      × (slices rows₁ (s .levels) (s .assembly) ≡ drawn this (configurationOf k area) s)
   unfolding pointsOf litPointsOf levelsOf addedBy drawn
   drawn-rows time points lit rows₁ d e ep el et er =
       let sample = drawing-sample t k area d in
@@ -146,7 +146,7 @@ module _ (t : ℕ) (octets : List ℕ) (k : Config) (area : List ℕ) (s : Slice
       let room : roomBy (sampleIn (k .size) (k .colours) area) (body this) (s .rows) ≡ true =
       ap (λ (a : Sample). roomBy a (body this) (s .rows)) (sym sample)
       ∙ drawing-room this (configurationOf k area) (lengths s) e d in
-      (rw (d, other, sample, et, ← (rw room at el), ep), rw (d, other, sample) (ap (λ (a : List ℤ). slices a (s .levels)) (rw room at er)))
+      (rw (d, other, sample, et, ← (rw room at el), ep), rw (d, other, sample) (ap (λ (a : List ℤ). slices a (s .levels) (s .assembly)) (rw room at er)))
 
   -- dimmer levels that fit
   pub drawn-levels : (mode n : ℕ) (levels₁ : List ℕ) → isDimming t (configurationOf k area) ≡ true
@@ -154,7 +154,7 @@ module _ (t : ℕ) (octets : List ℕ) (k : Config) (area : List ℕ) (s : Slice
       → n ≡ levelsCounted (mappingIn (k .size) area) (length (body this))
       → levels₁ ≡ levelsDrawn mode (mappingIn (k .size) area) (body this) (s .levels)
       → (_≡_ {A = Counts} (record { «lit_time» = 0; points = 0; «lit_points» = 0; levels = n }) (countsOf this (configurationOf k area)))
-      × (slices (s .rows) levels₁ ≡ drawn this (configurationOf k area) s)
+      × (slices (s .rows) levels₁ (s .assembly) ≡ drawn this (configurationOf k area) s)
   unfolding pointsOf litPointsOf levelsOf addedBy drawn levelsCounted levelsDrawn
   drawn-levels mode n levels₁ d e em en el =
       let mapping = isDimming-mapping t k area d in
@@ -163,7 +163,7 @@ module _ (t : ℕ) (octets : List ℕ) (k : Config) (area : List ℕ) (s : Slice
       ap (λ (m : Mapping). levelsFit m (length (body this))) (sym mapping)
       ∙ dimming-fits this (configurationOf k area) (lengths s) e d in (
         rw (other, d, mapping) (ap (λ (a : ℕ). record { «lit_time» = 0; points = 0; «lit_points» = 0; levels = a }) (rw fits at en)),
-        rw (other, d, mapping, configuration-mode k area, ← em) (ap (λ (a : List ℕ). slices (s .rows) a) (rw fits at el)),
+        rw (other, d, mapping, configuration-mode k area, ← em) (ap (λ (a : List ℕ). slices (s .rows) a (s .assembly)) (rw fits at el)),
       )
 
   -- neither: nothing is written

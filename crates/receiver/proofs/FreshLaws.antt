@@ -62,5 +62,6 @@ started-fresh s =
       reply = refl;
       meters = refl;
       channels = channels-fresh (startingSums s);
+      gathering = λ a. refl;
       sound = consistent-fresh (startingSums s) (starting-within s);
     }

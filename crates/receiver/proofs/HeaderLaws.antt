@@ -2,7 +2,7 @@
 use Prim.Native.Nat.{ℕ}
 use mathlib.Core.Path.{_≡_, ap}
 use mathlib.Core.List.{List}
-use Rattle.receiver.specs.Message.{channelOf, typeOf, routes, closes, modeOf, dataStart}
+use Rattle.receiver.specs.Message.{channelOf, typeOf, timestampOf, isLast, routes, closes, modeOf, dataStart}
 use Rattle.receiver.specs.Header.{headerOf}
 use Rattle.receiver.specs.declared.header.Header.{Header}
 
@@ -14,6 +14,14 @@ module _ (h : Header) (m : List ℕ) (e : h ≡ headerOf m) where
   pub header-type : h .«chunk_type» ≡ typeOf m
   unfolding headerOf
   header-type = ap (λ (a : Header). a .«chunk_type») e
+
+  pub header-timestamp : h .timestamp ≡ timestampOf m
+  unfolding headerOf
+  header-timestamp = ap (λ (a : Header). a .timestamp) e
+
+  pub header-last : h .last ≡ isLast m
+  unfolding headerOf
+  header-last = ap (λ (a : Header). a .last) e
 
   pub header-routing : h .routing ≡ routes m
   unfolding headerOf

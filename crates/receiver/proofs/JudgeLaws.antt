@@ -11,13 +11,11 @@ use Rattle.tags.specs.ChoiceLaws.{and-left, and-right, first-zero-left, first-z
 use Rattle.receiver.specs.Message.{channelOf, routes, serviceOf, modeOf, matchBits, tagsOf}
 use Rattle.receiver.specs.Modes.{exclusiveMode, channelCount}
 use Rattle.receiver.specs.Governing.{Configuration}
-use Rattle.receiver.specs.Slices.{Lent}
 use Rattle.receiver.specs.Chunk.{chunkOf}
 use Rattle.receiver.specs.Meters.{overLimit}
-use Rattle.receiver.specs.Checks.{headerNumber, routeNumber, holderNumber, closedNumber, governs, matchNumber, contentNumber, meterNumber, numberOf}
-use Rattle.receiver.specs.Record.{openState, configAt, areaAt, channelsOf, configurationOf, sumsOf, consistentUpTo, sized, consistent}
-use Rattle.receiver.specs.Contract.{messageNumber}
-use Rattle.receiver.specs.Steps.{RoutedTo, heldStates, governingNumber, Governed}
+use Rattle.receiver.specs.Checks.{headerNumber, routeNumber, holderNumber, closedNumber, governs, sequelNumber, matchNumber, roomNumber, ownNumber}
+use Rattle.receiver.specs.Record.{openState, configAt, areaAt, channelsOf, configurationOf, sumsOf, gatheringOf, consistentUpTo, sized, consistent}
+use Rattle.receiver.specs.Steps.{RoutedTo, heldStates, governingNumber, Governed, ownNumberOf}
 use Rattle.receiver.specs.declared.Receiver.{Receiver}
 use Rattle.receiver.specs.declared.route.Found.{Found}
 use Rattle.receiver.proofs.CheckLaws.{channel-below}
@@ -77,7 +75,7 @@ module _ (r : Receiver) (m : List ℕ) where
             sound = λ z. consistent-each (r .channels) channelCount (consistent-channels r good) (channelOf m) (channel-below m);
           }
 
--- ---- checks 15 to 23, by what governs
+-- ---- checks 15 to 19 and 24 to 26, by what governs
 
 module _ (r : Receiver) (m : List ℕ) (f : Found) (area : List ℕ) (governed : Governed r m f area) where
   -- checks in a row, put in brackets the other way
@@ -88,12 +86,12 @@ module _ (r : Receiver) (m : List ℕ) (f : Found) (area : List ℕ) (governed :
       go true e = refl
       go false e = rw e
 
-  -- a refusal by 1 to 14 is the message's number
-  pub number-refused : (lent : Lent) → not (eqb (f .number) 0) ≡ true → f .number ≡ messageNumber r m lent
-  unfolding numberOf
-  number-refused lent e = go (consistent r) refl
+  -- a refusal by 1 to 14 is the message's own number
+  pub number-refused : (n : ℕ) (a : List ℕ) → not (eqb (f .number) 0) ≡ true → f .number ≡ ownNumberOf r m n a
+  unfolding ownNumber
+  number-refused n a e = go (consistent r) refl
     where
-      go : (b : Bool) → consistent r ≡ b → f .number ≡ messageNumber r m lent
+      go : (b : Bool) → consistent r ≡ b → f .number ≡ ownNumberOf r m n a
       go false bad = governed .number ∙ rw bad
       go true good =
           let number : f .number ≡ first (headerNumber m) (routeNumber m) = governed .number ∙ rw good in
@@ -117,15 +115,15 @@ module _ (r : Receiver) (m : List ℕ) (f : Found) (area : List ℕ) (governed :
     v = configurationOf (f .config) area
 
     -- else the later checks give it
-    pub number-later : (lent : Lent)
-        → messageNumber r m lent
+    pub number-later : (n : ℕ) (a : List ℕ)
+        → ownNumberOf r m n a
         ≡ first (holderNumber m (channelsOf r))
         (first (closedNumber m (channelsOf r))
+        (first (sequelNumber m v (gatheringOf r a))
         (first (matchNumber (chunkOf m) v)
-        (first (contentNumber (chunkOf m) v lent)
-        (meterNumber (chunkOf m) v (sumsOf r)))))
-    unfolding numberOf
-    number-later lent =
+        (roomNumber m v (gatheringOf r a) n))))
+    unfolding ownNumber
+    number-later n a =
         rw
         (governed-good, governed-header-passed, first-zero-right (headerNumber m) (routeNumber m) both, ← governed .config passed)
 

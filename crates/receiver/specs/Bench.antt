@@ -18,10 +18,11 @@ use Rattle.receiver.specs.Message.{tagsOf, dataOf}
 use Rattle.receiver.specs.Governing.{Configuration, closed, meant}
 use Rattle.receiver.specs.Slices.{slices, lent}
 use Rattle.receiver.specs.Chunk.{pointsOf, litPointsOf, levelsOf}
+use Rattle.receiver.specs.Gathering.{noGathering, wholeOf}
 use Rattle.receiver.specs.Meters.{Sums, sums, addedBy}
-use Rattle.receiver.specs.Checks.{headerNumber, tagsNumber, routingNumber, routeNumber, heldElsewhere, holderNumber, closedNumber, governs, matchNumber, drawNumber, dimNumber, contentNumber, meterNumber, numberOf}
-use Rattle.receiver.specs.Effects.{replyOf, drawn, slicesAfter, sumsAfter}
-use Rattle.receiver.specs.LookBack.{offer, lookback, workedOut, judged, historySums}
+use Rattle.receiver.specs.Checks.{headerNumber, tagsNumber, routingNumber, routeNumber, heldElsewhere, holderNumber, closedNumber, governs, sequelNumber, matchNumber, roomNumber, drawNumber, dimNumber, contentNumber, meterNumber, Standing, ownNumber, wholeNumber, numberOf}
+use Rattle.receiver.specs.Effects.{replyOf, drawn, assemblyAfter, slicesAfter, sumsAfter, gatheringAfter}
+use Rattle.receiver.specs.LookBack.{offer, lookback, gatheringBy, workedOut, judged, historySums}
 
 -- ---- what the rows of the table are made of
 
@@ -36,9 +37,13 @@ routingMessage t mode tags chunk =
 abbrev allClosed : ℕ → Configuration
 allClosed c = meant closed
 
--- its number at a receiver newly started, lent 12,000 numbers and 1,024 octets
+-- nothing gathered, and meters of 0
+abbrev atStart : Standing
+atStart = record { channels = allClosed; gathering = noGathering; sums = sums 0 0 0 }
+
+-- its number at a receiver newly started, lent 12,000 numbers, 1,024 octets of levels and 65,536 of assembly
 firstNumber : List ℕ → ℤ
-firstNumber m = pos (numberOf m (lent 12000 1024) allClosed (sums 0 0 0))
+firstNumber m = pos (numberOf m (lent 12000 1024 65536) atStart)
 
 -- a chunk of n octets of samples or levels, all 0, after its header
 zerosChunk : ℕ → List ℕ
@@ -117,21 +122,21 @@ rowsA =
 -- the listing's line of a message that is accepted
 replyTo : List ℕ → List ℤ
 replyTo m =
-    let r = replyOf m 0 (governs m allClosed) in
+    let r = replyOf m 0 (governs m allClosed) noGathering in
     pos (r .channel .0) ∷ pos (r .«chunk_type») ∷ pos (r .number) ∷ pos (r .points) ∷ pos (r .«lit_points») ∷ []
 
 pub table : List (Row ℤ)
 table =
     -- a: accepted; the rows; the listing's line; the meters
     row (firstNumber messageA ∷ []) (z ∷ [])
-    ∷ row (slicesAfter messageA 0 (governs messageA allClosed) (slices (replicate 50 (pos 7)) []) .rows) rowsA
+    ∷ row (slicesAfter messageA 0 (governs messageA allClosed) noGathering (slices (replicate 50 (pos 7)) [] []) .rows) rowsA
     ∷ row (replyTo messageA) (pos 5 ∷ pos 2 ∷ z ∷ pos 2 ∷ pos 1 ∷ [])
-    ∷ row (sumsList (historySums (sums 0 0 0) (offer messageA (lent 12000 1024) ∷ []))) (pos 100 ∷ pos 2 ∷ pos 1 ∷ [])
+    ∷ row (sumsList (historySums (sums 0 0 0) (offer messageA (lent 12000 1024 65536) ∷ []))) (pos 100 ∷ pos 2 ∷ pos 1 ∷ [])
     -- C-11: accepted; the same two rows with their colours; two points and no lit one; no Duration
     ∷ row (firstNumber messageStart ∷ []) (z ∷ [])
-    ∷ row (slicesAfter messageStart 0 (governs messageStart allClosed) (slices (replicate 50 (pos 7)) []) .rows) (take 24 (drop 24 rowsA) ++ take 24 rowsA ++ drop 48 rowsA)
+    ∷ row (slicesAfter messageStart 0 (governs messageStart allClosed) noGathering (slices (replicate 50 (pos 7)) [] []) .rows) (take 24 (drop 24 rowsA) ++ take 24 rowsA ++ drop 48 rowsA)
     ∷ row (replyTo messageStart) (pos 5 ∷ pos 2 ∷ z ∷ pos 2 ∷ z ∷ [])
-    ∷ row (sumsList (historySums (sums 0 0 0) (offer messageStart (lent 12000 1024) ∷ []))) (z ∷ pos 2 ∷ z ∷ [])
+    ∷ row (sumsList (historySums (sums 0 0 0) (offer messageStart (lent 12000 1024 65536) ∷ []))) (z ∷ pos 2 ∷ z ∷ [])
     -- b
     ∷ row (slotIn 8 1 tagsB (0 ∷ 0 ∷ 0xFF ∷ 0x40 ∷ [])) (pos 16320 ∷ [])
     ∷ row (slotIn 8 1 tagsB (0 ∷ 0 ∷ 0xFF ∷ 0xC0 ∷ [])) (pos 1020 ∷ [])
@@ -152,5 +157,5 @@ table =
     ∷ []
 
 pub bench : Agrees table
-unfolding routingMessage firstNumber zerosChunk sumsList bit messageA messageStart tagsB tagsC tagsD tagsE tagsF tagsF′ tagsG sampleRow slotIn litIs z rowsA replyTo table placeOf colourOf intensityOf waveOf slotOf slotsOf litAmong rowsOf litIn definedGroup isSingle reservedSpace knownTag slotFor misplaced repeated tagNumber roleFor sampleWith allowedAfter read step walked incomplete endNumber dictionaryNumber dictionarySample overlapsAny badDimmerTag clashingTag dimmerTagNumber mappingWith readDimmer stepDimmer dimmed dimmerNumber dimmerMapping countSum levelsFit tagsOf dataOf meant headerNumber tagsNumber routingNumber routeNumber heldElsewhere holderNumber closedNumber governs pointsOf litPointsOf levelsOf matchNumber drawNumber dimNumber contentNumber addedBy meterNumber numberOf replyOf drawn slicesAfter sumsAfter lookback workedOut judged
+unfolding routingMessage firstNumber zerosChunk sumsList bit messageA messageStart tagsB tagsC tagsD tagsE tagsF tagsF′ tagsG sampleRow slotIn litIs z rowsA replyTo table placeOf colourOf intensityOf waveOf slotOf slotsOf litAmong rowsOf litIn definedGroup isSingle reservedSpace knownTag slotFor misplaced repeated tagNumber roleFor sampleWith allowedAfter read step walked incomplete endNumber dictionaryNumber dictionarySample overlapsAny badDimmerTag clashingTag dimmerTagNumber mappingWith readDimmer stepDimmer dimmed dimmerNumber dimmerMapping countSum levelsFit tagsOf dataOf meant headerNumber tagsNumber routingNumber routeNumber heldElsewhere holderNumber closedNumber governs pointsOf litPointsOf levelsOf wholeOf sequelNumber matchNumber roomNumber drawNumber dimNumber contentNumber addedBy meterNumber ownNumber wholeNumber numberOf replyOf drawn assemblyAfter slicesAfter sumsAfter gatheringAfter lookback gatheringBy workedOut judged
 bench = refl

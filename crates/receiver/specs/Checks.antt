@@ -1,6 +1,6 @@
--- Checks 2 to 23 in their order (document 01, "Checks, in order"). What the channels are is given by g, for each channel what governs
--- it before the message, and the meters by their sums so far; nothing here knows where either comes from. The message contract
--- reads them off the receiver, the look-back rule finds them in the list.
+-- Checks 2 to 26 in their order (document 01, "Checks, in order"; document 02, C-12). What stands before the message is given: for each
+-- channel what governs it, what is gathered of a frame, and the meters by their sums so far; nothing here knows where these come from. The
+-- message contract reads them off the receiver and the slice lent, the look-back rule finds them in the list.
 use Prim.Native.Nat.{ℕ, zero, suc, _*_, _%_}
 use mathlib.Core.Bool.{Bool, false, cond, not, _&&_, _||_}
 use mathlib.Core.List.{List}
@@ -12,11 +12,12 @@ use Rattle.tags.specs.Dictionary.{dictionaryNumber}
 use Rattle.tags.specs.Dimmer.{Mapping, dimmerNumber}
 use Rattle.tags.specs.Rows.{sampleOctets, samplesOf, pointsFor}
 use Rattle.tags.specs.Levels.{levelsFit}
-use Rattle.receiver.specs.Message.{totalSize, topBit, channelOf, typeOf, routes, serviceOf, modeOf, dataStart, tagsOf}
+use Rattle.receiver.specs.Message.{totalSize, topBit, channelOf, typeOf, sequelType, isSequel, timestampOf, routes, serviceOf, modeOf, dataStart, tagsOf}
 use Rattle.receiver.specs.Modes.{graphicMode, dimmerMode, voidMode, knownMode, serviceFits, exclusiveMode, channelCount}
 use Rattle.receiver.specs.Governing.{Configuration, routedBy, meant}
 use Rattle.receiver.specs.Slices.{Lent}
-use Rattle.receiver.specs.Chunk.{Chunk, chunkOf, voidType, knownType, isDrawing, isDimming, scm, body}
+use Rattle.receiver.specs.Chunk.{Chunk, chunkOf, voidType, knownType, isDrawing, isDimming, isFragment, scm, body}
+use Rattle.receiver.specs.Gathering.{Gathering, gathersOn, nextTimestamp, endIn, wholeOf}
 use Rattle.receiver.specs.Meters.{Sums, plus, overLimit, addedBy}
 
 -- ---- checks 2 to 5: the length and the header
@@ -83,11 +84,20 @@ closedNumber m g = refuse (not (routes m) && not (g (channelOf m) .isOpen)) 16
 unfoldable pub governs : List ℕ → (ℕ → Configuration) → Configuration
 governs m g = cond (routes m) (meant (routedBy m)) (g (channelOf m))
 
+-- ---- checks 24 and 25: a sequel; "in mode 0 they are accepted, past 24 to 26, and ignored"
+
+-- "after 16, 24 a sequel with no gathering on its channel, 25 a wrong timestamp"
+unfoldable pub sequelNumber : List ℕ → Configuration → Gathering → ℕ
+sequelNumber m v w =
+    cond (isSequel m && not (voidMode (v .mode)))
+    (first (refuse (not (gathersOn w (channelOf m))) 24) (refuse (not (eqb (timestampOf m) (nextTimestamp w))) 25))
+    0
+
 -- ---- checks 17 to 19: the chunk and what governs it
 
 -- 17. "The type does not go with the mode; 0x00 goes with all."
 abbrev pub typeFits : Chunk → Configuration → Bool
-typeFits k v = voidType (k .type) || isDrawing (k .type) v || isDimming (k .type) v
+typeFits k v = voidType (k .type) || isDrawing (k .type) v || isDimming (k .type) v || isFragment (k .type) v
 
 -- 18. "A Void chunk has data, or another has under 4 octets."
 abbrev pub wrongData : ℕ → ℕ → Bool
@@ -97,12 +107,23 @@ wrongData t octets = cond (voidType t) (ltb 0 octets) (ltb octets 4)
 abbrev pub mismatched : Chunk → Configuration → Bool
 mismatched k v = not (voidType (k .type)) && not (eqb (scm k) (v .match))
 
--- "Mode 0 skips .. 17 to 22"
+-- "Mode 0 skips .. 17 to 22"; C-12: "checks 5 and 17 to 19 pass it by", a sequel
 unfoldable pub matchNumber : Chunk → Configuration → ℕ
 matchNumber k v =
-    cond (voidMode (v .mode)) 0
+    cond (voidMode (v .mode) || sequelType (k .type)) 0
     (first (refuse (not (typeFits k v)) 17)
     (first (refuse (wrongData (k .type) (length (k .octets))) 18) (refuse (mismatched k v) 19)))
+
+-- ---- check 26: the room for a fragment
+
+-- the most octets of a frame in fragments
+abbrev pub mostOctets : ℕ
+mostOctets = 1_000_000_000
+
+-- "after 19, 26 an assembly slice too short for the octets so far, or over 1,000,000,000 of them"; those of the fragment among them
+unfoldable pub roomNumber : List ℕ → Configuration → Gathering → ℕ → ℕ
+roomNumber m v w assembly =
+    refuse (isFragment (typeOf m) v && (ltb assembly (endIn m w) || ltb mostOctets (endIn m w))) 26
 
 -- ---- checks 20 to 22: the samples or levels, and the room for them
 
@@ -120,7 +141,7 @@ drawNumber t width n rows =
 unfoldable pub dimNumber : Mapping → ℕ → ℕ → ℕ
 dimNumber mapping count levels = first (refuse (not (levelsFit mapping count)) 21) (refuse (ltb levels placeCount) 22)
 
--- a chunk that passed 17 and is neither a wave or frame nor dimmer levels is Void or in mode 0, and skips these
+-- a chunk that passed 17 and is neither a wave or frame nor dimmer levels is Void, in mode 0 or a fragment, and skips these
 unfoldable pub contentNumber : Chunk → Configuration → Lent → ℕ
 contentNumber k v lent =
     cond (isDrawing (k .type) v)
@@ -134,13 +155,32 @@ meterNumber k v sums = refuse (overLimit (plus sums (addedBy k v))) 23
 
 -- ---- the order of all of them, written here alone
 
--- the number of message m with the slices lent: 0 where it is accepted
-unfoldable pub numberOf : List ℕ → Lent → (ℕ → Configuration) → Sums → ℕ
-numberOf m lent g sums =
+-- what stands before a message
+pub record Standing : Type 0 where
+  pub channels : ℕ → Configuration
+  pub gathering : Gathering
+  pub sums : Sums
+
+-- what governs message m there
+abbrev pub governedIn : List ℕ → Standing → Configuration
+governedIn m b = governs m (b .channels)
+
+-- the checks on the message itself; with C-12, 24 and 25 come after 16, and 26 after 19
+unfoldable pub ownNumber : List ℕ → ℕ → Standing → ℕ
+ownNumber m assembly b =
     first (headerNumber m)
     (first (routeNumber m)
-    (first (holderNumber m g)
-    (first (closedNumber m g)
-    (first (matchNumber (chunkOf m) (governs m g))
-    (first (contentNumber (chunkOf m) (governs m g) lent)
-    (meterNumber (chunkOf m) (governs m g) sums))))))
+    (first (holderNumber m (b .channels))
+    (first (closedNumber m (b .channels))
+    (first (sequelNumber m (governedIn m b) (b .gathering))
+    (first (matchNumber (chunkOf m) (governedIn m b))
+    (roomNumber m (governedIn m b) (b .gathering) assembly))))))
+
+-- 20 to 23, on the whole
+unfoldable pub wholeNumber : Chunk → Configuration → Lent → Sums → ℕ
+wholeNumber k v lent sums = first (contentNumber k v lent) (meterNumber k v sums)
+
+-- the number of message m with the slices lent: 0 where it is accepted
+unfoldable pub numberOf : List ℕ → Lent → Standing → ℕ
+numberOf m lent b =
+    first (ownNumber m (lent .assembly) b) (wholeNumber (wholeOf m (governedIn m b) (b .gathering)) (governedIn m b) lent (b .sums))

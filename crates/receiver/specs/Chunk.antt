@@ -8,7 +8,7 @@ use lib.Dec.{eqb}
 use Rattle.tags.specs.Dictionary.{Sample}
 use Rattle.tags.specs.Rows.{pointsBy, litPointsBy, behindBy}
 use Rattle.tags.specs.Levels.{levelsWritten}
-use Rattle.receiver.specs.Message.{octet, typeOf, dataOf}
+use Rattle.receiver.specs.Message.{octet, typeOf, sequelType, dataOf}
 use Rattle.receiver.specs.Modes.{dimmerMode}
 use Rattle.receiver.specs.Governing.{Configuration}
 
@@ -24,20 +24,29 @@ chunk t octets = record { type = t; octets = octets }
 abbrev pub chunkOf : List ℕ → Chunk
 chunkOf m = chunk (typeOf m) (dataOf m)
 
--- ---- types: 0x00 Void, 0x01 wave in mode 1, 0x02 frame in mode 2, 0x18 dimmer levels in modes 4 and 6
+-- ---- types: 0x00 Void, 0x01 wave in mode 1, 0x02 frame in mode 2, 0x18 dimmer levels in modes 4 and 6; C-12: 0x03 the first fragment of
+-- a frame and 0xC0 its sequels
 
 abbrev pub voidType : ℕ → Bool
 voidType t = eqb t 0
 
--- check 4: "The type is not 0x00, 0x01, 0x02 or 0x18"
+-- C-12: "Large frames come as type 0x03 and then 0xC0"
+abbrev pub fragmentType : ℕ → Bool
+fragmentType t = eqb t 3 || sequelType t
+
+-- check 4: "The type is not 0x00, 0x01, 0x02 or 0x18"; C-12: "Check 4 lets both types in"
 abbrev pub knownType : ℕ → Bool
-knownType t = voidType t || eqb t 1 || eqb t 2 || eqb t 0x18
+knownType t = voidType t || eqb t 1 || eqb t 2 || eqb t 0x18 || fragmentType t
 
 abbrev pub isDrawing : ℕ → Configuration → Bool
 isDrawing t v = eqb t 1 && eqb (v .mode) 1 || eqb t 2 && eqb (v .mode) 2
 
 abbrev pub isDimming : ℕ → Configuration → Bool
 isDimming t v = eqb t 0x18 && dimmerMode (v .mode)
+
+-- C-12: "both go with mode 2"
+abbrev pub isFragment : ℕ → Configuration → Bool
+isFragment t v = fragmentType t && eqb (v .mode) 2
 
 -- ---- fields
 

@@ -1,18 +1,20 @@
 -- What the calls of the receiver promise (document 01, "Calls and layers" and "Checks, in order"), for every record, message and slice.
 use Prim.Native.Nat.{ℕ}
 use mathlib.Core.Path.{_≡_}
-use mathlib.Core.Bool.{true, false, cond, _||_}
+use mathlib.Core.Bool.{Bool, true, false, cond, _&&_, _||_}
 use mathlib.Core.List.{List}
 use lib.ListN.{getD}
 use lib.Dec.{eqb}
 use Rattle.tags.specs.Choice.{refuse}
+use Rattle.receiver.specs.Message.{isLast}
 use Rattle.receiver.specs.Governing.{closed, meant}
-use Rattle.receiver.specs.Slices.{Slices, Lent, lengths}
+use Rattle.receiver.specs.Slices.{Slices, lengths}
+use Rattle.receiver.specs.Gathering.{noGathering}
 use Rattle.receiver.specs.Meters.{Sums, sums, overLimit}
 use Rattle.receiver.specs.Checks.{governs, numberOf}
-use Rattle.receiver.specs.Effects.{bareReply, replyOf, slicesAfter, sumsAfter, governingAfter}
+use Rattle.receiver.specs.Effects.{bareReply, replyOf, ofWhole, slicesAfter, sumsAfter, governingAfter, gatheringAfter}
 use Rattle.receiver.specs.LookBack.{startingSums}
-use Rattle.receiver.specs.Record.{channelsOf, sumsOf, sized, consistent}
+use Rattle.receiver.specs.Record.{channelsOf, sumsOf, gatheringOf, standingOf, sized, consistent}
 use Rattle.receiver.specs.declared.Receiver.{Receiver}
 use Rattle.receiver.specs.declared.Outcome.{Outcome}
 use Rattle.receiver.specs.declared.Reply.{Reply}
@@ -31,6 +33,7 @@ pub record Started (s : Sums) (o : Outcome) : Type 0 where
   pub reply : o .reply ≡ bareReply (startNumber s)
   pub meters : sumsOf (o .receiver) ≡ startingSums s
   pub channels : (c : ℕ) → channelsOf (o .receiver) c ≡ meant closed
+  pub gathering : (a : List ℕ) → gatheringOf (o .receiver) a ≡ noGathering
   pub sound : consistent (o .receiver) ≡ true
 
 -- Start on a record that the host lends: the same, where its arrays have their lengths; else nothing is written, and the reply is 1.
@@ -49,21 +52,26 @@ readingsOf r = readingsIn (r .meters)
 abbrev pub sumsIn : Readings → Sums
 sumsIn q = sums (q .«lit_time») (q .points) (q .«lit_points»)
 
--- the number of a message: check 1 on the record, then checks 2 to 23 with what the record says of the channels and meters
-abbrev pub messageNumber : Receiver → List ℕ → Lent → ℕ
-messageNumber r m lent = cond (consistent r) (numberOf m lent (channelsOf r) (sumsOf r)) 1
+-- the number of a message: check 1 on the record, then the others with what the record and the assembly slice say
+abbrev pub messageNumber : Receiver → List ℕ → Slices → ℕ
+messageNumber r m s = cond (consistent r) (numberOf m (lengths s) (standingOf r (s .assembly))) 1
+
+-- an answer with number n may leave another record: an acceptance, 19, and (C-12) what drops a frame that is gathered
+abbrev pub changes : List ℕ → ℕ → Bool
+changes m n = eqb n 0 || eqb n 19 || eqb n 25 || eqb n 26 || isLast m && ofWhole n
 
 -- Message m answered with number n by record r: the reply, the lent slices as they are left, and the next receiver as far as later
--- calls show it: its meters, what governs each channel, and whether it is consistent. A refusal by anything but 19 hands the record
--- back as it came.
+-- calls show it: its meters, what governs each channel, what is gathered with the assembly slice as it is left, and whether it is
+-- consistent. Every other refusal hands the record back as it came.
 pub record AnsweredWith (n : ℕ) (r : Receiver) (m : List ℕ) (s₀ : Slices) (o : Outcome) (s₁ : Slices) : Type 0 where
-  pub reply : o .reply ≡ replyOf m n (governs m (channelsOf r))
-  pub slices : s₁ ≡ slicesAfter m n (governs m (channelsOf r)) s₀
-  pub meters : sumsOf (o .receiver) ≡ sumsAfter m n (governs m (channelsOf r)) (sumsOf r)
+  pub reply : o .reply ≡ replyOf m n (governs m (channelsOf r)) (gatheringOf r (s₀ .assembly))
+  pub slices : s₁ ≡ slicesAfter m n (governs m (channelsOf r)) (gatheringOf r (s₀ .assembly)) s₀
+  pub meters : sumsOf (o .receiver) ≡ sumsAfter m n (governs m (channelsOf r)) (gatheringOf r (s₀ .assembly)) (sumsOf r)
   pub channels : (c : ℕ) → channelsOf (o .receiver) c ≡ governingAfter m n (channelsOf r) c
+  pub gathering : gatheringOf (o .receiver) (s₁ .assembly) ≡ gatheringAfter m n (governs m (channelsOf r)) (gatheringOf r (s₀ .assembly))
   pub sound : consistent (o .receiver) ≡ consistent r
-  pub kept : (eqb n 0 || eqb n 19) ≡ false → o .receiver ≡ r
+  pub kept : changes m n ≡ false → o .receiver ≡ r
 
 -- the answer to message m, lent the slices s₀: that with its number
 abbrev pub Answered : Receiver → List ℕ → Slices → Outcome → Slices → Type 0
-Answered r m s₀ o s₁ = AnsweredWith (messageNumber r m (lengths s₀)) r m s₀ o s₁
+Answered r m s₀ o s₁ = AnsweredWith (messageNumber r m s₀) r m s₀ o s₁

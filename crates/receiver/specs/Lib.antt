@@ -3,6 +3,7 @@ pub mod Modes
 pub mod Governing
 pub mod Slices
 pub mod Chunk
+pub mod Gathering
 pub mod LitPointsLaws
 pub mod Meters
 pub mod Checks
@@ -19,3 +20,5 @@ pub mod Bench
 pub mod PinMessages
 pub mod Pins
 pub mod HistoryPins
+pub mod FragmentPins
+pub mod WholePins

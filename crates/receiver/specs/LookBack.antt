@@ -10,8 +10,9 @@ use Rattle.receiver.specs.Message.{channelOf}
 use Rattle.receiver.specs.Governing.{Governing, Configuration, closed, meant}
 use Rattle.receiver.specs.Slices.{Slices, Lent, lengths}
 use Rattle.receiver.specs.Meters.{Sums, sums, plus, overLimit}
-use Rattle.receiver.specs.Checks.{governs, numberOf}
-use Rattle.receiver.specs.Effects.{replyOf, slicesAfter, sumsAfter, decides, decided}
+use Rattle.receiver.specs.Gathering.{Gathering, noGathering}
+use Rattle.receiver.specs.Checks.{governs, Standing, numberOf}
+use Rattle.receiver.specs.Effects.{replyOf, slicesAfter, sumsAfter, decides, decided, gatheringAfter}
 use Rattle.receiver.specs.declared.Reply.{Reply}
 
 -- a message of the list: its octets and the lengths of the slices lent with it
@@ -40,19 +41,31 @@ lookback (j ∷ js) c =
 abbrev pub channelsBy : List Judged → ℕ → Configuration
 channelsBy js c = meant (lookback js c)
 
+-- what governs message m after them
+abbrev pub governedBy : List Judged → List ℕ → Configuration
+governedBy js m = governs m (channelsBy js)
+
+-- C-12: what is gathered of a frame after them, its octets taken from the messages of the list
+unfoldable pub gatheringBy : List Judged → Gathering
+gatheringBy [] = noGathering
+gatheringBy (j ∷ js) = gatheringAfter (j .octets) (j .number) (governedBy js (j .octets)) (gatheringBy js)
+
 -- The durations, points and lit points that the rule works out: what each accepted message adds, by what governs it.
 unfoldable pub workedOut : List Judged → Sums
 workedOut [] = sums 0 0 0
-workedOut (j ∷ js) = sumsAfter (j .octets) (j .number) (governs (j .octets) (channelsBy js)) (workedOut js)
+workedOut (j ∷ js) = sumsAfter (j .octets) (j .number) (governedBy js (j .octets)) (gatheringBy js) (workedOut js)
 
 -- "the running sums of the list, which are the starting readings plus what its accepted messages so far add"
 abbrev pub running : Sums → List Judged → Sums
 running start js = plus start (workedOut js)
 
+-- what stands before one more message
+abbrev pub standingBy : Sums → List Judged → Standing
+standingBy start js = record { channels = channelsBy js; gathering = gatheringBy js; sums = running start js }
+
 -- the number of one more message after the judged ones
 abbrev pub judge : Sums → List Judged → Offer → Judged
-judge start js o =
-    record { octets = o .octets; number = numberOf (o .octets) (o .lent) (channelsBy js) (running start js) }
+judge start js o = record { octets = o .octets; number = numberOf (o .octets) (o .lent) (standingBy start js) }
 
 -- the whole list judged, latest first
 unfoldable pub judged : Sums → List Offer → List Judged
@@ -62,7 +75,7 @@ judged start (o ∷ os) = judge start (judged start os) o ∷ judged start os
 -- the reply to each judged message, by what governs it
 unfoldable pub repliesBy : List Judged → List Reply
 repliesBy [] = []
-repliesBy (j ∷ js) = replyOf (j .octets) (j .number) (governs (j .octets) (channelsBy js)) ∷ repliesBy js
+repliesBy (j ∷ js) = replyOf (j .octets) (j .number) (governedBy js (j .octets)) (gatheringBy js) ∷ repliesBy js
 
 -- readings above the limit count as the 0 0 0 that start then sets
 abbrev pub startingSums : Sums → Sums
@@ -92,10 +105,16 @@ nextNumber start offers o = judge (startingSums start) (historyJudged start offe
 
 -- what governs it: the message itself, or what looking back in the list finds
 abbrev pub nextGoverned : Sums → List Offer → List ℕ → Configuration
-nextGoverned start offers m = governs m (channelsBy (historyJudged start offers))
+nextGoverned start offers m = governedBy (historyJudged start offers) m
+
+-- what is gathered before it
+abbrev pub nextGathering : Sums → List Offer → Gathering
+nextGathering start offers = gatheringBy (historyJudged start offers)
 
 abbrev pub nextReply : Sums → List Offer → Offer → Reply
-nextReply start offers o = replyOf (o .octets) (nextNumber start offers o) (nextGoverned start offers (o .octets))
+nextReply start offers o =
+    replyOf (o .octets) (nextNumber start offers o) (nextGoverned start offers (o .octets)) (nextGathering start offers)
 
 abbrev pub nextSlices : Sums → List Offer → List ℕ → Slices → Slices
-nextSlices start offers m s = slicesAfter m (nextNumber start offers (offer m (lengths s))) (nextGoverned start offers m) s
+nextSlices start offers m s =
+    slicesAfter m (nextNumber start offers (offer m (lengths s))) (nextGoverned start offers m) (nextGathering start offers) s

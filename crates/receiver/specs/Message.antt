@@ -1,7 +1,7 @@
 -- The octets of one message (document 01, "One message"; 003, 2.1 and 2.2). Multi-octet fields are big-endian; bit 0 is the most
 -- significant. An octet past the end reads as 0; checks 2 and 5 refuse a message before such a reading counts.
 use Prim.Native.Nat.{ℕ, _+_, _-_, _*_, _/_, _%_}
-use mathlib.Core.Bool.{Bool, cond, _&&_}
+use mathlib.Core.Bool.{Bool, cond, not, _&&_}
 use mathlib.Core.List.{List}
 use lib.ListN.{getD, take, drop}
 use lib.Dec.{eqb}
@@ -17,8 +17,8 @@ totalSize m = octet m 0 * 256 + octet m 1
 abbrev pub topBit : List ℕ → ℕ
 topBit m = octet m 2 / 128
 
-abbrev pub configured : List ℕ → Bool
-configured m = eqb (octet m 2 / 64 % 2) 1
+abbrev pub cclf : List ℕ → Bool
+cclf m = eqb (octet m 2 / 64 % 2) 1
 
 abbrev pub channelOf : List ℕ → ℕ
 channelOf m = octet m 2 % 64
@@ -26,6 +26,20 @@ channelOf m = octet m 2 % 64
 -- octet 3
 abbrev pub typeOf : List ℕ → ℕ
 typeOf m = octet m 3
+
+-- C-12: a sequel, type 0xC0, has "CCLF as the mark of the last" fragment of its frame
+abbrev pub sequelType : ℕ → Bool
+sequelType t = eqb t 0xC0
+
+abbrev pub isSequel : List ℕ → Bool
+isSequel m = sequelType (typeOf m)
+
+abbrev pub isLast : List ℕ → Bool
+isLast m = isSequel m && cclf m
+
+-- in every other message it says that a configuration header follows: "A sequel never routes or closes", and its octets stand "from octet 8"
+abbrev pub configured : List ℕ → Bool
+configured m = not (isSequel m) && cclf m
 
 -- octets 4-7, in microseconds, only passed on
 abbrev pub timestampOf : List ℕ → ℕ

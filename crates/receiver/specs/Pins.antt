@@ -14,12 +14,13 @@ use Rattle.tags.specs.Dimmer.{overlapsAny, badDimmerTag, clashingTag, dimmerTag
 use Rattle.tags.specs.Levels.{countSum, levelsFit, mappedSum, levelsWritten}
 use Rattle.receiver.specs.Message.{channelOf, timestampOf, routes, closes, matchBits, dataStart, tagsOf, dataOf}
 use Rattle.receiver.specs.Governing.{meant}
-use Rattle.receiver.specs.Slices.{lent}
+use Rattle.receiver.specs.Slices.{slices}
 use Rattle.receiver.specs.Chunk.{pointsOf, litPointsOf, levelsOf}
+use Rattle.receiver.specs.Gathering.{wholeOf}
 use Rattle.receiver.specs.Meters.{sums, addedBy}
-use Rattle.receiver.specs.Checks.{headerNumber, tagsNumber, routingNumber, routeNumber, heldElsewhere, holderNumber, closedNumber, governs, matchNumber, drawNumber, dimNumber, contentNumber, meterNumber, numberOf}
-use Rattle.receiver.specs.Effects.{replyOf, sumsAfter}
-use Rattle.receiver.specs.LookBack.{lookback, workedOut, judged, repliesBy}
+use Rattle.receiver.specs.Checks.{headerNumber, tagsNumber, routingNumber, routeNumber, heldElsewhere, holderNumber, closedNumber, governs, sequelNumber, matchNumber, roomNumber, drawNumber, dimNumber, contentNumber, meterNumber, ownNumber, wholeNumber, numberOf}
+use Rattle.receiver.specs.Effects.{replyOf, sumsAfter, gatheringAfter}
+use Rattle.receiver.specs.LookBack.{lookback, gatheringBy, workedOut, judged, repliesBy}
 use Rattle.receiver.specs.Section.{sectionNumber, sectionStart, dataSection}
 use Rattle.receiver.specs.Modes.{channelCount}
 use Rattle.receiver.specs.Record.{areaPlace, recordSize, configurationOf, consistentAt, consistentUpTo, consistent}
@@ -38,8 +39,8 @@ messageTable =
     ∷ row (map (λ t. numberFor (octets 20 t)) (0 ∷ 19 ∷ 20 ∷ 21 ∷ 276 ∷ [])) (2 ∷ 2 ∷ 4 ∷ 2 ∷ 2 ∷ [])
     -- 3. "The top bit of octet 2 is 0."
     ∷ row (notRefusedBy (3 ∷ []) (λ o. numberFor (message o 0x80 [])) (span 0 256)) (span 128 128)
-    -- 4. "The type is not 0x00, 0x01, 0x02 or 0x18."
-    ∷ row (notRefusedBy (4 ∷ []) (λ t. numberFor (message 0x80 t [])) (span 0 256)) (0x00 ∷ 0x01 ∷ 0x02 ∷ 0x18 ∷ [])
+    -- 4. "The type is not 0x00, 0x01, 0x02 or 0x18."; C-12, of 0x03 and 0xC0: "Check 4 lets both types in"
+    ∷ row (notRefusedBy (4 ∷ []) (λ t. numberFor (message 0x80 t [])) (span 0 256)) (0x00 ∷ 0x01 ∷ 0x02 ∷ 0x03 ∷ 0x18 ∷ 0xC0 ∷ [])
     -- "six bits of channel ID"; the timestamp; "CFL bits 2-3 are SDM, bit 6 Close, bit 7 Routing"
     ∷ row (map (λ o. channelOf (0 ∷ 0 ∷ o ∷ [])) (span 0 256)) (span 0 64 ++ span 0 64 ++ span 0 64 ++ span 0 64)
     ∷ row (timestampOf (0 ∷ 0 ∷ 0 ∷ 0 ∷ 0x01 ∷ 0x02 ∷ 0x03 ∷ 0x04 ∷ []) ∷ []) (0x01020304 ∷ [])
@@ -71,13 +72,13 @@ messageTable =
     ∷ []
 
 pub message-pins : Agrees messageTable
-unfolding messageTable placeOf colourOf litAmong rowsOf litIn definedGroup isSingle reservedSpace knownTag slotFor misplaced repeated tagNumber roleFor sampleWith allowedAfter read step walked incomplete endNumber dictionaryNumber dictionarySample overlapsAny badDimmerTag clashingTag dimmerTagNumber mappingWith readDimmer stepDimmer dimmed dimmerNumber dimmerMapping countSum levelsFit tagsOf dataOf meant headerNumber tagsNumber routingNumber routeNumber heldElsewhere holderNumber closedNumber governs pointsOf litPointsOf levelsOf matchNumber drawNumber dimNumber contentNumber addedBy meterNumber numberOf sectionNumber sectionStart dataSection
+unfolding messageTable placeOf colourOf litAmong rowsOf litIn definedGroup isSingle reservedSpace knownTag slotFor misplaced repeated tagNumber roleFor sampleWith allowedAfter read step walked incomplete endNumber dictionaryNumber dictionarySample overlapsAny badDimmerTag clashingTag dimmerTagNumber mappingWith readDimmer stepDimmer dimmed dimmerNumber dimmerMapping countSum levelsFit tagsOf dataOf meant headerNumber tagsNumber routingNumber routeNumber heldElsewhere holderNumber closedNumber governs pointsOf litPointsOf levelsOf wholeOf sequelNumber matchNumber roomNumber drawNumber dimNumber contentNumber addedBy meterNumber ownNumber wholeNumber numberOf sectionNumber sectionStart dataSection
 message-pins = refl
 
 pub chunkTable : List (Row ℕ)
 chunkTable =
     -- "Mode 0 skips 8 to 14 and 17 to 22", whatever its words and chunks
-    row (map (λ t. numberFor (routing 0 t 1 0 0 (replicate 8 0x30) (0xFF ∷ []))) (0x00 ∷ 0x01 ∷ 0x02 ∷ 0x18 ∷ [])) (0 ∷ 0 ∷ 0 ∷ 0 ∷ [])
+    row (map (λ t. numberFor (routing 0 t 1 0 0 (replicate 8 0x30) (0xFF ∷ []))) (0x00 ∷ 0x01 ∷ 0x02 ∷ 0x03 ∷ 0x18 ∷ [])) (replicate 5 0)
     -- 15. "With Routing to mode 1, another open channel has mode 1.", of 64 channels; other modes may be had at once
     ∷ row (map (λ c. getD (numbersOf (routing 0 0 1 0 1 drawingTags [] ∷ routing c 0 1 0 1 drawingTags [] ∷ [])) 1 0) (span 0 64)) (0 ∷ replicate 63 15)
     ∷ row (map (λ c. getD (numbersOf (routing 63 0 1 0 1 drawingTags [] ∷ routing c 0 1 0 1 drawingTags [] ∷ [])) 1 0) (span 0 64)) (replicate 63 15 ++ (0 ∷ []))
@@ -85,9 +86,9 @@ chunkTable =
     (replicate 8 0)
     -- 16. "Without Routing, the channel is closed."
     ∷ row (map (λ c. numberFor (message (0x80 + c) 0 [])) (span 0 64)) (replicate 64 16)
-    -- 17. "The type does not go with the mode; 0x00 goes with all.": 0x01 mode 1, 0x02 mode 2, 0x18 modes 4 and 6
-    ∷ row (each (1 ∷ 2 ∷ 4 ∷ 6 ∷ []) (λ mode. notRefusedBy (17 ∷ []) (λ t. numberFor (bringing mode t 0)) (0x00 ∷ 0x01 ∷ 0x02 ∷ 0x18 ∷ [])))
-    (0x00 ∷ 0x01 ∷ 0x00 ∷ 0x02 ∷ 0x00 ∷ 0x18 ∷ 0x00 ∷ 0x18 ∷ [])
+    -- 17. "The type does not go with the mode; 0x00 goes with all.": 0x01 mode 1, 0x02 mode 2, 0x18 modes 4 and 6; C-12: 0x03 mode 2
+    ∷ row (each (1 ∷ 2 ∷ 4 ∷ 6 ∷ []) (λ mode. notRefusedBy (17 ∷ []) (λ t. numberFor (bringing mode t 0)) (0x00 ∷ 0x01 ∷ 0x02 ∷ 0x03 ∷ 0x18 ∷ [])))
+    (0x00 ∷ 0x01 ∷ 0x00 ∷ 0x02 ∷ 0x03 ∷ 0x00 ∷ 0x18 ∷ 0x00 ∷ 0x18 ∷ [])
     -- 18. "A Void chunk has data, or another has under 4 octets."
     ∷ row (refusedBy (18 ∷ []) (λ n. numberFor (bringing 1 0 n)) (span 0 8)) (span 1 7)
     ∷ row (refusedBy (18 ∷ []) (λ n. numberFor (bringing 1 1 n)) (span 0 8)) (0 ∷ 1 ∷ 2 ∷ 3 ∷ [])
@@ -118,7 +119,7 @@ chunkTable =
     ∷ []
 
 pub chunk-pins : Agrees chunkTable
-unfolding chunkTable placeOf colourOf litAmong rowsOf litIn definedGroup isSingle reservedSpace knownTag slotFor misplaced repeated tagNumber roleFor sampleWith allowedAfter read step walked incomplete endNumber dictionaryNumber dictionarySample overlapsAny badDimmerTag clashingTag dimmerTagNumber mappingWith readDimmer stepDimmer dimmed dimmerNumber dimmerMapping countSum levelsFit mappedSum levelsWritten tagsOf dataOf meant headerNumber tagsNumber routingNumber routeNumber heldElsewhere holderNumber closedNumber governs pointsOf litPointsOf levelsOf matchNumber drawNumber dimNumber contentNumber addedBy meterNumber numberOf replyOf sumsAfter lookback workedOut judged repliesBy
+unfolding chunkTable placeOf colourOf litAmong rowsOf litIn definedGroup isSingle reservedSpace knownTag slotFor misplaced repeated tagNumber roleFor sampleWith allowedAfter read step walked incomplete endNumber dictionaryNumber dictionarySample overlapsAny badDimmerTag clashingTag dimmerTagNumber mappingWith readDimmer stepDimmer dimmed dimmerNumber dimmerMapping countSum levelsFit mappedSum levelsWritten tagsOf dataOf meant headerNumber tagsNumber routingNumber routeNumber heldElsewhere holderNumber closedNumber governs pointsOf litPointsOf levelsOf wholeOf sequelNumber matchNumber roomNumber drawNumber dimNumber contentNumber addedBy meterNumber ownNumber wholeNumber numberOf replyOf sumsAfter gatheringAfter lookback gatheringBy workedOut judged repliesBy
 chunk-pins = refl
 
 pub meterTable : List (Row ℕ)
@@ -141,7 +142,7 @@ meterTable =
     ∷ row (each (36_000_000_000_000_000 ∷ 36_000_000_000_000_001 ∷ []) (λ n. startNumber (sums n 0 0) ∷ startNumber (sums 0 n 0) ∷ startNumber (sums 0 0 n) ∷ []))
     (0 ∷ 0 ∷ 0 ∷ 23 ∷ 23 ∷ 23 ∷ [])
     -- 1. a record with a meter above its limit breaks the consistency rule, and one at the limit does not: its channels are closed
-    ∷ row (map (λ n. messageNumber (fresh (sums 0 n 0)) (plain 0 0 []) (lent 0 0)) (36_000_000_000_000_000 ∷ 36_000_000_000_000_001 ∷ []))
+    ∷ row (map (λ n. messageNumber (fresh (sums 0 n 0)) (plain 0 0 []) (slices [] [] [])) (36_000_000_000_000_000 ∷ 36_000_000_000_000_001 ∷ []))
     (16 ∷ 1 ∷ [])
     -- 23. "A meter would pass its limit": each of the three comes to the limit, and then one above
     ∷ row (map (λ lit. numberAt (sums lit 0 0) 12000 1024 twoColoured) (35_999_999_999_933_949 ∷ 35_999_999_999_933_950 ∷ [])) (0 ∷ 23 ∷ [])
@@ -155,7 +156,7 @@ meterTable =
     ∷ []
 
 pub meter-pins : Agrees meterTable
-unfolding meterTable placeOf colourOf litAmong rowsOf litIn definedGroup isSingle reservedSpace knownTag slotFor misplaced repeated tagNumber roleFor sampleWith allowedAfter read step walked incomplete endNumber dictionaryNumber dictionarySample overlapsAny badDimmerTag clashingTag dimmerTagNumber mappingWith readDimmer stepDimmer dimmed dimmerNumber dimmerMapping countSum levelsFit tagsOf dataOf meant headerNumber tagsNumber routingNumber routeNumber heldElsewhere holderNumber closedNumber governs pointsOf litPointsOf levelsOf matchNumber drawNumber dimNumber contentNumber addedBy meterNumber numberOf sumsAfter lookback workedOut judged configurationOf consistentAt consistentUpTo consistent freshChannels sizesFit
+unfolding meterTable placeOf colourOf litAmong rowsOf litIn definedGroup isSingle reservedSpace knownTag slotFor misplaced repeated tagNumber roleFor sampleWith allowedAfter read step walked incomplete endNumber dictionaryNumber dictionarySample overlapsAny badDimmerTag clashingTag dimmerTagNumber mappingWith readDimmer stepDimmer dimmed dimmerNumber dimmerMapping countSum levelsFit tagsOf dataOf meant headerNumber tagsNumber routingNumber routeNumber heldElsewhere holderNumber closedNumber governs pointsOf litPointsOf levelsOf wholeOf sequelNumber matchNumber roomNumber drawNumber dimNumber contentNumber addedBy meterNumber ownNumber wholeNumber numberOf sumsAfter gatheringAfter lookback gatheringBy workedOut judged configurationOf consistentAt consistentUpTo consistent freshChannels sizesFit
 meter-pins = refl
 
 -- the areas end where the octets of a record do

@@ -1,6 +1,6 @@
 -- How the receiver's record is read, and the consistency rule of check 1 (document 01, "Checks, in order"). Only these readings of
--- a record show in later calls: what governs each channel, the three meters, and whether it is consistent. A host keeps the record as a
--- value or lends its two arrays; either way it is read like this.
+-- a record show in later calls: what governs each channel, the three meters, what is gathered of a frame with the slice lent for it, and
+-- whether it is consistent. A host keeps the record as a value or lends its three arrays; either way it is read like this.
 use Prim.Native.Nat.{ℕ, zero, suc, _+_, _-_, _*_}
 use mathlib.Core.Bool.{Bool, true, cond, not, _&&_}
 use mathlib.Core.List.{List}
@@ -11,13 +11,16 @@ use Rattle.tags.specs.Dimmer.{noMapping}
 use Rattle.tags.specs.Kept.{areaSize, sampleIn, mappingIn, sizesFit}
 use Rattle.receiver.specs.Modes.{graphicMode, dimmerMode, knownMode, channelCount}
 use Rattle.receiver.specs.Governing.{Configuration, closed, meant}
+use Rattle.receiver.specs.Gathering.{Gathering}
 use Rattle.receiver.specs.Meters.{Sums, sums, overLimit}
+use Rattle.receiver.specs.Checks.{Standing}
 use Rattle.receiver.specs.declared.Config.{Config}
 use Rattle.receiver.specs.declared.Receiver.{Receiver}
+use Rattle.receiver.specs.declared.gather.Gathered.{Gathered}
 
--- the record of a host that lends its octets and its meters
-abbrev pub recordIn : List ℕ → List ℕ → Receiver
-recordIn channels meters = record { meters = meters; channels = channels }
+-- the record of a host that lends its octets, its meters and the four numbers of what is gathered
+abbrev pub recordIn : List ℕ → List ℕ → List ℕ → Receiver
+recordIn channels meters gathered = record { meters = meters; gathered = gathered; channels = channels }
 
 -- ---- where its octets stand: the states of all channels, their match bits, their two sizes, and then the areas, one a channel
 
@@ -86,7 +89,34 @@ channelsOf r c = cond (ltb c channelCount) (configurationOf (configAt r c) (area
 abbrev pub sumsOf : Receiver → Sums
 sumsOf r = sums (getD (r .meters) 0 0) (getD (r .meters) 1 0) (getD (r .meters) 2 0)
 
--- ---- check 1: the consistency rule
+-- ---- what is gathered (document 02, C-12): four numbers of the record, and the octets at the start of the assembly slice
+
+abbrev pub gatheredCount : ℕ
+gatheredCount = 4
+
+abbrev pub gatheredIn : List ℕ → Gathered
+gatheredIn l = record { state = getD l 0 0; count = getD l 1 0; timestamp = getD l 2 0; sequel = getD l 3 0 }
+
+-- state 0 is none, and a channel plus 1 is the channel of the frame
+abbrev pub gatheringIn : Gathered → List ℕ → Gathering
+gatheringIn q assembly =
+    record {
+      isOn = not (eqb (q .state) 0);
+      channel = q .state - 1;
+      count = q .count;
+      octets = take (q .count) assembly;
+      timestamp = q .timestamp;
+      sequel = q .sequel;
+    }
+
+abbrev pub gatheringOf : Receiver → List ℕ → Gathering
+gatheringOf r assembly = gatheringIn (gatheredIn (r .gathered)) assembly
+
+-- what stands before a message that is offered to it with that slice
+abbrev pub standingOf : Receiver → List ℕ → Standing
+standingOf r assembly = record { channels = channelsOf r; gathering = gatheringOf r assembly; sums = sumsOf r }
+
+-- ---- check 1: the consistency rule; no value of what is gathered breaks it
 
 -- A channel is consistent where it is closed or open in a mode that there is, and its sizes are within its area (the tag layer's test).
 unfoldable pub consistentAt : Config → Bool
@@ -96,9 +126,10 @@ unfoldable pub consistentUpTo : List ℕ → ℕ → Bool
 consistentUpTo channels zero = true
 consistentUpTo channels (suc n) = consistentUpTo channels n && consistentAt (configIn channels n)
 
--- both arrays have their lengths; one that is kept as a value always does
+-- its arrays have their lengths; one that is kept as a value always does
 abbrev pub sized : Receiver → Bool
-sized r = eqb (length (r .channels)) recordSize && eqb (length (r .meters)) meterCount
+sized r =
+    eqb (length (r .channels)) recordSize && (eqb (length (r .meters)) meterCount && eqb (length (r .gathered)) gatheredCount)
 
 -- it has its lengths, the meters are within their limit and each channel is consistent
 unfoldable pub consistent : Receiver → Bool

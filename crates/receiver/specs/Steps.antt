@@ -7,23 +7,35 @@ use lib.ListN.{getD, set, replicate}
 use lib.Dec.{eqb}
 use Rattle.tags.specs.Choice.{first}
 use Rattle.tags.specs.Kept.{octetsPut}
+use Rattle.receiver.specs.Message.{channelOf, typeOf, isLast, closes, dataOf}
 use Rattle.receiver.specs.Governing.{Configuration, routedTo, meant}
-use Rattle.receiver.specs.Slices.{Slices}
-use Rattle.receiver.specs.Chunk.{Chunk, chunkOf, pointsOf, litPointsOf, levelsOf}
+use Rattle.receiver.specs.Slices.{Slices, lengths}
+use Rattle.receiver.specs.Chunk.{Chunk, chunk, chunkOf, isFragment, pointsOf, litPointsOf, levelsOf}
+use Rattle.receiver.specs.Gathering.{Gathering, placeIn, endIn, grown, completes}
 use Rattle.receiver.specs.Meters.{Sums, addedBy}
-use Rattle.receiver.specs.Checks.{headerNumber, routingNumber, routeNumber, governs}
-use Rattle.receiver.specs.Effects.{slicesAfter}
-use Rattle.receiver.specs.Record.{recordIn, matchPlace, sizePlace, coloursPlace, areaPlace, recordSize, openState, modeIn, configurationOf, channelsOf, consistentAt, consistent}
+use Rattle.receiver.specs.Checks.{headerNumber, routingNumber, routeNumber, governs, ownNumber, wholeNumber}
+use Rattle.receiver.specs.Effects.{drawn, takes, drops}
+use Rattle.receiver.specs.Record.{recordIn, matchPlace, sizePlace, coloursPlace, areaPlace, recordSize, openState, modeIn, configurationOf, channelsOf, gatheringIn, standingOf, consistentAt, consistent}
 use Rattle.receiver.specs.declared.Config.{Config}
 use Rattle.receiver.specs.declared.Receiver.{Receiver}
 use Rattle.receiver.specs.declared.Readings.{Readings}
 use Rattle.receiver.specs.declared.route.Found.{Found}
+use Rattle.receiver.specs.declared.gather.Gathered.{Gathered}
 use Rattle.receiver.specs.declared.draw.Counts.{Counts}
+use Rattle.receiver.specs.declared.draw.Done.{Done}
 
 -- ---- the meters as an array
 
 abbrev pub metersBy : Readings → List ℕ
 metersBy q = q .«lit_time» ∷ q .points ∷ q .«lit_points» ∷ []
+
+-- ---- what is gathered as an array
+
+abbrev pub gatheredBy : Gathered → List ℕ
+gatheredBy q = q .state ∷ q .count ∷ q .timestamp ∷ q .sequel ∷ []
+
+abbrev pub noGathered : Gathered
+noGathered = record { state = 0; count = 0; timestamp = 0; sequel = 0 }
 
 -- ---- start
 
@@ -32,7 +44,7 @@ unfoldable pub freshChannels : List ℕ
 freshChannels = replicate recordSize 0
 
 abbrev pub fresh : Sums → Receiver
-fresh s = recordIn freshChannels (s .litTime ∷ s .points ∷ s .litPoints ∷ [])
+fresh s = recordIn freshChannels (s .litTime ∷ s .points ∷ s .litPoints ∷ []) (gatheredBy noGathered)
 
 -- ---- what governs a message
 
@@ -49,9 +61,9 @@ heldStates channels mode c (suc n) =
     heldStates channels mode c n
     || not (eqb n c) && (openState (getD channels n 0) && eqb (modeIn (getD channels n 0)) mode)
 
--- the record that a step is shown: its octets, and the meters by value
-abbrev pub shownBy : List ℕ → Readings → Receiver
-shownBy channels q = recordIn channels (metersBy q)
+-- the record that a step is shown: its octets, and the meters and what is gathered by value
+abbrev pub shownBy : List ℕ → Readings → Gathered → Receiver
+shownBy channels q gathered = recordIn channels (metersBy q) (gatheredBy gathered)
 
 -- checks 1 to 14
 abbrev pub governingNumber : Receiver → List ℕ → ℕ
@@ -63,11 +75,32 @@ pub record Governed (r : Receiver) (m : List ℕ) (f : Found) (area : List ℕ) 
   pub config : f .number ≡ 0 → configurationOf (f .config) area ≡ governs m (channelsOf r)
   pub sound : f .number ≡ 0 → consistentAt (f .config) ≡ true
 
--- ---- what is drawn
+-- ---- checks 1 to 19 and 24 to 26
 
--- the most octets of a chunk that the steps are asked to take; a message has fewer
-abbrev pub mostOctets : ℕ
-mostOctets = 1_000_000_000
+-- the number of the message itself, with a slice of so many octets lent, which are the list's
+abbrev pub ownNumberOf : Receiver → List ℕ → ℕ → List ℕ → ℕ
+ownNumberOf r m n assembly = cond (consistent r) (ownNumber m n (standingOf r assembly)) 1
+
+-- ---- a fragment
+
+-- the message's own number is 0 and it is a fragment, in mode 2
+abbrev pub taken : ℕ → List ℕ → Configuration → Bool
+taken own m v = eqb own 0 && isFragment (typeOf m) v
+
+-- the assembly slice after it, and where its octets end there; 0 where none were taken
+pub record TakenIn (own : ℕ) (m : List ℕ) (v : Configuration) (w : Gathering) (a₀ : List ℕ) (end : ℕ) (a₁ : List ℕ) : Type 0 where
+  pub assembly : a₁ ≡ cond (taken own m v) (octetsPut a₀ (placeIn m w) (dataOf m)) a₀
+  pub ends : end ≡ cond (taken own m v) (endIn m w) 0
+
+-- what the record holds of a gathered frame after message m, answered with n and governed by v
+unfoldable pub gatheredAfter : List ℕ → ℕ → Configuration → Gathered → Gathered
+gatheredAfter m n v q =
+    let w = gatheringIn q [] in
+    cond (takes m n v && not (isLast m || closes m))
+    (record { state = channelOf m + 1; count = endIn m w; timestamp = grown m w .timestamp; sequel = grown m w .sequel })
+    (cond (drops m n v w) noGathered q)
+
+-- ---- what is drawn
 
 -- what an accepted chunk adds to the meters, and the levels that it writes
 abbrev pub countsOf : Chunk → Configuration → Counts
@@ -86,10 +119,16 @@ noCounts = record { «lit_time» = 0; points = 0; «lit_points» = 0; levels = 0
 abbrev pub countsWith : ℕ → Chunk → Configuration → Counts
 countsWith n k v = cond (eqb n 0) (countsOf k v) noCounts
 
--- message m answered with number n: its counts and the slices
-pub record WrittenBy (n : ℕ) (m : List ℕ) (v : Configuration) (s₀ : Slices) (d : Counts) (s₁ : Slices) : Type 0 where
-  pub counts : d ≡ countsWith n (chunkOf m) v
-  pub slices : s₁ ≡ slicesAfter m n v s₀
+-- the whole of a message, with the frame that it completes given
+abbrev pub wholeIn : List ℕ → Configuration → List ℕ → Chunk
+wholeIn m v frame = cond (completes m v) (chunk 2 frame) (chunkOf m)
+
+-- Chunk k, governed by v, of a message whose own number is given: where that is 0 it is tried by 20 to 23 and drawn. The number that the
+-- message is answered with, its counts, and the slices; the assembly slice is left alone.
+pub record Concluded (own : ℕ) (k : Chunk) (v : Configuration) (sums : Sums) (s₀ : Slices) (d : Done) (s₁ : Slices) : Type 0 where
+  pub number : d .number ≡ first own (wholeNumber k v (lengths s₀) sums)
+  pub counts : d .counts ≡ countsWith (d .number) k v
+  pub slices : s₁ ≡ cond (eqb (d .number) 0) (drawn k v s₀) s₀
 
 -- ---- what is kept
 

@@ -16,25 +16,47 @@ ghost use lib.ListN.{length};
 ghost use Rattle.tags.specs.Layout.{mappingOf};
 ghost use Rattle.tags.specs.Kept.{areaSize, octetsOf};
 ghost use Rattle.receiver.specs.Slices.{lent};
-ghost use Rattle.receiver.specs.Chunk.{chunk, knownType, isDrawing, isDimming, body, startSamples};
-ghost use Rattle.receiver.specs.Checks.{wrongData, matchNumber, drawNumber, dimNumber, contentNumber};
+ghost use Rattle.receiver.specs.Message.{sequelType};
+ghost use Rattle.receiver.specs.Chunk.{chunk, fragmentType, knownType, isDrawing, isDimming, isFragment, body, startSamples};
+ghost use Rattle.receiver.specs.Checks.{wrongData, mostOctets, matchNumber, drawNumber, dimNumber, contentNumber};
 ghost use Rattle.receiver.specs.Record.{configurationOf};
-ghost use Rattle.receiver.specs.Steps.{mostOctets};
 
 // The types of a chunk.
 const VOID: u8 = 0x00;
 
 const WAVE: u8 = 0x01;
 
-const FRAME: u8 = 0x02;
+pub(crate) const FRAME: u8 = 0x02;
+
+const FIRST: u8 = 0x03;
 
 const LEVELS: u8 = 0x18;
+
+const SEQUEL: u8 = 0xC0;
+
+// A sequel of a frame in fragments (C-12).
+pub(crate) fn is_sequel(chunk_type: u8) -> bool
+    ensures { λ r. ⌜ r ≡ sequelType «chunk_type» ⌝ }
+{
+    chunk_type == SEQUEL
+}
+
+// A fragment of a frame: the first or a sequel.
+fn fragment_type(chunk_type: u8) -> bool
+    ensures { λ r. ⌜ r ≡ fragmentType «chunk_type» ⌝ }
+{
+    (chunk_type == FIRST) | is_sequel(chunk_type)
+}
 
 // Check 4.
 pub(crate) fn known_type(chunk_type: u8) -> bool
     ensures { λ r. ⌜ r ≡ knownType «chunk_type» ⌝ }
 {
-    (chunk_type == VOID) | (chunk_type == WAVE) | (chunk_type == FRAME) | (chunk_type == LEVELS)
+    (chunk_type == VOID)
+        | (chunk_type == WAVE)
+        | (chunk_type == FRAME)
+        | (chunk_type == LEVELS)
+        | fragment_type(chunk_type)
 }
 
 // A wave in mode 1 or a frame in mode 2.
@@ -51,6 +73,14 @@ pub(crate) fn is_dimming(chunk_type: u8, k: Config) -> bool
 {
     let mode = mode_in(k.state);
     (chunk_type == LEVELS) & dimmer_mode(mode)
+}
+
+// A fragment in mode 2.
+pub(crate) fn is_fragment(chunk_type: u8, k: Config) -> bool
+    ensures { λ r. ⌜ ((area : List ℕ) → r ≡ isFragment «chunk_type» (configurationOf k area)) ⌝ }
+{
+    let mode = mode_in(k.state);
+    fragment_type(chunk_type) & (mode == 2)
 }
 
 // How many samples of a wave or frame, from the first, only move the mirrors and are never lit: a frame has one (C-11).
@@ -85,18 +115,19 @@ fn wrong_data(chunk_type: u8, octets: usize) -> bool
     octets < 4
 }
 
-// Checks 17 to 19.
+// Checks 17 to 19; mode 0 and a sequel skip them.
 pub(crate) fn match_number(chunk_type: u8, k: Config, octets: &[u8]) -> u8
     ensures { λ r. ⌜ ((area : List ℕ) → r ≡ matchNumber (chunk «chunk_type» (now (octets .entry))) (configurationOf k area)) ⌝ }
 {
     let mode = mode_in(k.state);
-    let ignored = void_mode(mode);
+    let ignored = void_mode(mode) | is_sequel(chunk_type);
     if ignored {
         return 0;
     }
     let draws = is_drawing(chunk_type, k);
     let dims = is_dimming(chunk_type, k);
-    let fits = (chunk_type == VOID) | draws | dims;
+    let gathers = is_fragment(chunk_type, k);
+    let fits = (chunk_type == VOID) | draws | dims | gathers;
     if !fits {
         return 17;
     }
@@ -158,7 +189,7 @@ pub(crate) fn content_number(
 ) -> u8
     requires { ⌜ length (now area) ≡ areaSize ⌝ }
     requires { ⌜ length (now octets) ≤ mostOctets ⌝ }
-    ensures { λ r. ⌜ r ≡ contentNumber (chunk «chunk_type» (now (octets .entry))) (configurationOf k (now (area .entry))) (lent rows levels) ⌝ }
+    ensures { λ r. ⌜ ((assembly : ℕ) → r ≡ contentNumber (chunk «chunk_type» (now (octets .entry))) (configurationOf k (now (area .entry))) (lent rows levels assembly)) ⌝ }
 {
     let content = body_of(octets);
     let draws = is_drawing(chunk_type, k);

@@ -1,7 +1,8 @@
-// What a chunk adds to the meters (check 23), and what an accepted chunk writes.
+// What a chunk adds to the meters (check 23), what an accepted chunk writes, and the end of a message: checks 20 to 23 and the writing.
 use super::Config;
 use super::Readings;
 use super::chunk::body_of;
+use super::chunk::content_number;
 use super::chunk::is_dimming;
 use super::chunk::is_drawing;
 use super::chunk::start_samples;
@@ -13,17 +14,18 @@ use tags::kept::dimmer_in;
 use tags::kept::layout_in;
 ghost use mathlib.Core.Path.{_≡_};
 ghost use mathlib.Core.Bool.{false, cond};
+ghost use mathlib.Core.List.{List};
 ghost use Prim.Native.Nat.{ℕ, _≤_, _<_, _^_};
 ghost use lib.ListN.{length};
 ghost use Rattle.tags.specs.Kept.{areaSize};
-ghost use Rattle.receiver.specs.Slices.{slices, lengths};
+ghost use Rattle.receiver.specs.Slices.{slices, lent};
 ghost use Rattle.receiver.specs.Chunk.{chunk, duration};
 ghost use Rattle.receiver.specs.Meters.{overLimit};
-ghost use Rattle.receiver.specs.Checks.{contentNumber, meterNumber};
+ghost use Rattle.receiver.specs.Checks.{mostOctets, contentNumber, meterNumber};
 ghost use Rattle.receiver.specs.Effects.{drawn};
 ghost use Rattle.receiver.specs.Record.{configurationOf};
 ghost use Rattle.receiver.specs.Contract.{sumsIn};
-ghost use Rattle.receiver.specs.Steps.{mostOctets, countsOf, noCounts};
+ghost use Rattle.receiver.specs.Steps.{countsOf, noCounts, Concluded};
 
 // What an accepted chunk wrote: the lit time, points and lit points that it adds to the meters, and the levels.
 pub struct Counts {
@@ -31,6 +33,12 @@ pub struct Counts {
     pub points: u32,
     pub lit_points: u32,
     pub levels: u32,
+}
+
+// What a message is answered with, and its counts.
+pub struct Done {
+    pub number: u8,
+    pub counts: Counts,
 }
 
 // The Duration in microseconds.
@@ -105,9 +113,9 @@ pub(crate) fn draw(
 ) -> Counts
     requires { ⌜ length (now area) ≡ areaSize ⌝ }
     requires { ⌜ length (now octets) ≤ mostOctets ⌝ }
-    requires { ⌜ contentNumber (chunk «chunk_type» (now octets)) (configurationOf k (now area)) (lengths (slices (now rows) (now levels))) ≡ 0 ⌝ }
+    requires { ⌜ ((a : ℕ) → contentNumber (chunk «chunk_type» (now octets)) (configurationOf k (now area)) (lent (length (now rows)) (length (now levels)) a) ≡ 0) ⌝ }
     ensures { λ d. ⌜ d ≡ countsOf (chunk «chunk_type» (now (octets .entry))) (configurationOf k (now (area .entry))) ⌝ }
-    ensures { λ d. ⌜ slices (now (rows .exit)) (now (levels .exit)) ≡ drawn (chunk «chunk_type» (now (octets .entry))) (configurationOf k (now (area .entry))) (slices (now (rows .entry)) (now (levels .entry))) ⌝ }
+    ensures { λ d. ⌜ ((a : List ℕ) → slices (now (rows .exit)) (now (levels .exit)) a ≡ drawn (chunk «chunk_type» (now (octets .entry))) (configurationOf k (now (area .entry))) (slices (now (rows .entry)) (now (levels .entry)) a)) ⌝ }
 {
     let content = body_of(octets);
     let draws = is_drawing(chunk_type, k);
@@ -153,4 +161,43 @@ pub(crate) fn no_counts() -> Counts
         lit_points: 0,
         levels: 0,
     }
+}
+
+// A message answered with a number that refuses it.
+pub(crate) fn refused(number: u8) -> Done
+    ensures { λ r. ⌜ r ≡ record { number = number; counts = noCounts } ⌝ }
+{
+    Done {
+        number,
+        counts: no_counts(),
+    }
+}
+
+// Checks 20 to 23 on a chunk, and its writing where they pass it.
+pub(crate) fn finish(
+    chunk_type: u8,
+    k: Config,
+    area: &[u8; AREA],
+    octets: &[u8],
+    meters: Readings,
+    rows: &mut [i32],
+    levels: &mut [u8],
+) -> Done
+    requires { ⌜ length (now area) ≡ areaSize ⌝ }
+    requires { ⌜ length (now octets) ≤ mostOctets ⌝ }
+    requires { ⌜ overLimit (sumsIn meters) ≡ false ⌝ }
+    ensures { λ d. ⌜ ((a : List ℕ) → Concluded 0 (chunk «chunk_type» (now (octets .entry))) (configurationOf k (now (area .entry))) (sumsIn meters) (slices (now (rows .entry)) (now (levels .entry)) a) d (slices (now (rows .exit)) (now (levels .exit)) a)) ⌝ }
+{
+    let content = content_number(chunk_type, k, area, octets, rows.len(), levels.len());
+    let unfit = content != 0;
+    if unfit {
+        return refused(content);
+    }
+    let meter = meter_number(chunk_type, k, area, octets, meters);
+    let over = meter != 0;
+    if over {
+        return refused(meter);
+    }
+    let counts = draw(chunk_type, k, area, octets, rows, levels);
+    Done { number: 0, counts }
 }

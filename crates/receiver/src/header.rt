@@ -2,13 +2,14 @@
 // 0, as in the definitions.
 use super::ChannelId;
 use super::ServiceId;
+use super::chunk::is_sequel;
 use super::chunk::known_type;
 ghost use mathlib.Core.Path.{_≡_};
 ghost use mathlib.Core.Bool.{cond};
 ghost use Prim.Native.Nat.{_+_, _*_, _≤_};
 ghost use lib.ListN.{length, getD};
 ghost use Rattle.receiver.specs.Header.{headerOf};
-ghost use Rattle.receiver.specs.Message.{totalSize, dataStart, dataOf};
+ghost use Rattle.receiver.specs.Message.{totalSize, configured, dataStart, dataOf};
 ghost use Rattle.receiver.specs.Checks.{headerNumber, wrongLength};
 
 // The least and the largest length of a message.
@@ -20,6 +21,7 @@ pub struct Header {
     pub channel: ChannelId,
     pub chunk_type: u8,
     pub timestamp: u32,
+    pub last: bool,
     pub routing: bool,
     pub close: bool,
     pub match_bits: u8,
@@ -69,11 +71,19 @@ fn start_of(configured: bool, routing: bool, words: u8) -> usize
     8
 }
 
+// Whether a configuration header follows; CCLF says so, but not in a sequel (C-12).
+fn has_config(m: &[u8]) -> bool
+    ensures { λ r. ⌜ r ≡ configured (now (m .entry)) ⌝ }
+{
+    let sequel = is_sequel(octet(m, 3));
+    !sequel & (octet(m, 2) / 64 % 2 == 1)
+}
+
 // The same by the octets of the message.
 pub(crate) fn data_start(m: &[u8]) -> usize
     ensures { λ r. ⌜ r ≡ dataStart (now (m .entry)) ⌝ }
 {
-    let configured = octet(m, 2) / 64 % 2 == 1;
+    let configured = has_config(m);
     let routing = configured & (octet(m, 9) % 2 == 1);
     start_of(configured, routing, octet(m, 8))
 }
@@ -83,16 +93,20 @@ pub(crate) fn read(m: &[u8]) -> Header
     ensures { λ r. ⌜ r ≡ headerOf (now (m .entry)) ⌝ }
 {
     let content = octet(m, 2);
+    let chunk_type = octet(m, 3);
     let flags = octet(m, 9);
-    let configured = content / 64 % 2 == 1;
+    let marked = content / 64 % 2 == 1;
+    let sequel = is_sequel(chunk_type);
+    let configured = !sequel & marked;
     let routing = configured & (flags % 2 == 1);
     let close = configured & (flags / 2 % 2 == 1);
     let start = start_of(configured, routing, octet(m, 8));
     let timestamp = be32(octet(m, 4), octet(m, 5), octet(m, 6), octet(m, 7));
     Header {
         channel: ChannelId(content % 64),
-        chunk_type: octet(m, 3),
+        chunk_type,
         timestamp,
+        last: sequel & marked,
         routing,
         close,
         match_bits: flags / 16 % 4,

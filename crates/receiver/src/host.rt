@@ -30,10 +30,11 @@ pub extern "C" fn mewkoast_message(
     octets: &[u8],
     rows: &mut [i32],
     levels: &mut [u8],
+    assembly: &mut [u8],
 ) -> Outcome
-    ensures { λ o. ⌜ Answered receiver (now (octets .entry)) (slices (now (rows .entry)) (now (levels .entry))) o (slices (now (rows .exit)) (now (levels .exit))) ⌝ }
+    ensures { λ o. ⌜ Answered receiver (now (octets .entry)) (slices (now (rows .entry)) (now (levels .entry)) (now (assembly .entry))) o (slices (now (rows .exit)) (now (levels .exit)) (now (assembly .exit))) ⌝ }
 {
-    receiver.message(octets, rows, levels)
+    receiver.message(octets, rows, levels, assembly)
 }
 
 #[no_mangle]

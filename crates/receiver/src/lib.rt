@@ -2,6 +2,7 @@
 mod channels;
 mod chunk;
 mod draw;
+mod gather;
 mod header;
 pub mod host;
 mod message;
@@ -12,6 +13,7 @@ mod route;
 pub mod section;
 pub mod stream;
 
+use record::GATHERED;
 use record::METERS;
 use record::RECORD;
 
@@ -45,11 +47,12 @@ pub struct Config {
     pub colours: u8,
 }
 
-// The receiver: three meters, and the octets of 64 channels as channels.rt has their places. A C host can hold it, as a value or to lend
-// its two arrays; nothing else is stored.
+// The receiver: three meters, four numbers of the frame that is being gathered, as gather.rt has them, and the octets of 64 channels as
+// channels.rt has their places. A C host can hold it, as a value or to lend its three arrays; nothing else is stored.
 #[repr(C)]
 pub struct Receiver {
     pub meters: [u64; METERS],
+    pub gathered: [u32; GATHERED],
     pub channels: [u8; RECORD],
 }
 

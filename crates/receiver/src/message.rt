@@ -1,5 +1,5 @@
-// One message: judged by every check in order, then written and settled. The judging changes nothing; what it accepts is applied. The
-// work is done on a record that is lent, by a host or by the call that takes one as a value.
+// One message: judged by the checks on itself, its fragment taken if it is one, then the whole judged and written, and the record settled.
+// The judging changes nothing. The work is done on a record that is lent, by a host or by the call that takes one as a value.
 use super::Config;
 use super::Outcome;
 use super::Readings;
@@ -7,12 +7,16 @@ use super::Receiver;
 use super::Reply;
 use super::channels::area_at;
 use super::channels::config_at;
-use super::chunk::content_number;
+use super::chunk::FRAME;
+use super::chunk::is_fragment;
 use super::chunk::match_number;
 use super::draw::Counts;
-use super::draw::draw;
-use super::draw::meter_number;
-use super::draw::no_counts;
+use super::draw::Done;
+use super::draw::finish;
+use super::draw::refused;
+use super::gather::Gathered;
+use super::gather::room_number;
+use super::gather::sequel_number;
 use super::header::Header;
 use super::header::data_of;
 use super::header::header_number;
@@ -21,6 +25,7 @@ use super::modes::exclusive_mode;
 use super::modes::graphic_mode;
 use super::modes::mode_in;
 use super::place::mewkoast_offer_on;
+use super::record::GATHERED;
 use super::record::METERS;
 use super::record::RECORD;
 use super::record::bare_reply;
@@ -34,20 +39,22 @@ use super::route::route;
 use tags::kept::AREA;
 use tags::kept::space_in;
 ghost use mathlib.Core.Path.{_≡_};
-ghost use mathlib.Core.Bool.{_&&_};
+ghost use mathlib.Core.Bool.{false, cond, _&&_};
 ghost use mathlib.Core.List.{List};
-ghost use Prim.Native.Nat.{ℕ, _+_, _<_, _^_};
-ghost use lib.ListN.{length};
+ghost use Prim.Native.Nat.{ℕ, _+_, _<_, _≤_, _^_};
+ghost use lib.ListN.{length, take, drop};
 ghost use Rattle.tags.specs.Kept.{areaSize};
 ghost use Rattle.receiver.specs.Modes.{exclusiveMode, channelCount};
-ghost use Rattle.receiver.specs.Slices.{slices, lent, lengths};
-ghost use Rattle.receiver.specs.Chunk.{chunkOf};
-ghost use Rattle.receiver.specs.Checks.{headerNumber, contentNumber};
+ghost use Rattle.receiver.specs.Slices.{slices};
+ghost use Rattle.receiver.specs.Gathering.{Gathering, wholeOf};
+ghost use Rattle.receiver.specs.Meters.{overLimit};
+ghost use Rattle.receiver.specs.Checks.{mostOctets, headerNumber};
 ghost use Rattle.receiver.specs.Header.{headerOf};
 ghost use Rattle.receiver.specs.Effects.{replyOf};
 ghost use Rattle.receiver.specs.Record.{recordSize, meterCount, recordIn, configurationOf};
-ghost use Rattle.receiver.specs.Contract.{outcome, messageNumber, Answered};
-ghost use Rattle.receiver.specs.Steps.{countsWith, WrittenBy, risenFrom, shownBy, Governed, heldStates};
+ghost use Rattle.receiver.specs.Contract.{outcome, sumsIn, Answered};
+ghost use Rattle.receiver.specs.Steps.{countsWith, wholeIn, Concluded, risenFrom, shownBy, Governed, ownNumberOf, heldStates};
+ghost use Rattle.receiver.specs.declared.gather.Gathered.{Gathered};
 
 // ---- judging
 
@@ -61,7 +68,7 @@ pub(crate) fn governing(
 ) -> Found
     requires { ⌜ (length (now channels) ≡ recordSize) × (length (now area) ≡ areaSize) ⌝ }
     requires { ⌜ h ≡ headerOf (now m) ⌝ }
-    ensures { λ f. ⌜ Governed (shownBy (now (channels .entry)) meters) (now (m .entry)) f (now (area .exit)) ⌝ }
+    ensures { λ f. ⌜ ((q : Gathered) → Governed (shownBy (now (channels .entry)) meters q) (now (m .entry)) f (now (area .exit))) ⌝ }
     ensures { λ f. ⌜ length (now (area .exit)) ≡ areaSize ⌝ }
 {
     let good = sound(channels, meters);
@@ -99,24 +106,23 @@ fn has_holder(channels: &[u8], h: Header) -> bool
     false
 }
 
-// Checks 15 to 23, by what was found to govern the message.
+// Checks 15 to 19 and 24 to 26, by what was found to govern the message and what is gathered: the checks on the message itself.
 pub(crate) fn judge(
     found: Found,
-    area: &[u8; AREA],
     channels: &[u8],
     meters: Readings,
+    q: Gathered,
     h: Header,
     m: &[u8],
-    rows: usize,
-    levels: usize,
+    assembly: usize,
 ) -> u8
-    requires { ⌜ (length (now channels) ≡ recordSize) × (length (now area) ≡ areaSize) ⌝ }
+    requires { ⌜ length (now channels) ≡ recordSize ⌝ }
     requires { ⌜ h ≡ headerOf (now m) ⌝ }
-    requires { ⌜ Governed (shownBy (now channels) meters) (now m) found (now area) ⌝ }
-    ensures { λ r. ⌜ r ≡ messageNumber (shownBy (now (channels .entry)) meters) (now (m .entry)) (lent rows levels) ⌝ }
+    requires { ⌜ (found .number ≡ 0 → headerNumber (now m) ≡ 0) ⌝ }
+    ensures { λ r. ⌜ ((area a : List ℕ) → Governed (shownBy (now (channels .entry)) meters q) (now (m .entry)) found area → r ≡ ownNumberOf (shownBy (now (channels .entry)) meters q) (now (m .entry)) assembly a) ⌝ }
 {
-    let refused = found.number != 0;
-    if refused {
+    let refuses = found.number != 0;
+    if refuses {
         return found.number;
     }
     let elsewhere = has_holder(channels, h);
@@ -128,6 +134,11 @@ pub(crate) fn judge(
     if closed {
         return 16;
     }
+    let strayed = sequel_number(h, config, q);
+    let stray = strayed != 0;
+    if stray {
+        return strayed;
+    }
     let start = h.start;
     let octets = data_of(m, start);
     let mismatch = match_number(h.chunk_type, config, octets);
@@ -135,38 +146,66 @@ pub(crate) fn judge(
     if unmatched {
         return mismatch;
     }
-    let content = content_number(h.chunk_type, config, area, octets, rows, levels);
-    let unfit = content != 0;
-    if unfit {
-        return content;
-    }
-    meter_number(h.chunk_type, config, area, octets, meters)
+    room_number(h, config, q, octets.len(), assembly)
 }
 
 // ---- applying
 
-// What a message answered with a number writes: nothing where that refuses it.
-pub(crate) fn write(
-    number: u8,
+// The octets of the whole: the message's own, from where its data section starts, or those of the frame that it completes, the first of
+// the assembly slice.
+fn whole_octets<'a>(
+    completes: bool,
+    m: &'a [u8],
+    start: usize,
+    assembly: &'a [u8],
+    end: usize,
+) -> &'a [u8]
+    requires { ⌜ (start ≤ length (now m)) × (end ≤ length (now assembly)) ⌝ }
+    ensures { λ r. ⌜ now r ≡ cond completes (take end (now (assembly .entry))) (drop start (now (m .entry))) ⌝ }
+{
+    if completes {
+        return &assembly[0..end];
+    }
+    &m[start..]
+}
+
+// The type of the whole: a frame that comes in fragments is drawn as one in one message.
+fn whole_type(completes: bool, chunk_type: u8) -> u8
+    ensures { λ r. ⌜ r ≡ cond completes 2 «chunk_type» ⌝ }
+{
+    if completes {
+        return FRAME;
+    }
+    chunk_type
+}
+
+// The end of a message with its own number: where that is 0, checks 20 to 23 on the whole and its writing.
+pub(crate) fn conclude<'a>(
+    own: u8,
     h: Header,
     k: Config,
     area: &[u8; AREA],
-    m: &[u8],
+    m: &'a [u8],
+    assembly: &'a [u8],
+    end: usize,
+    meters: Readings,
     rows: &mut [i32],
     levels: &mut [u8],
-) -> Counts
+) -> Done
     requires { ⌜ length (now area) ≡ areaSize ⌝ }
     requires { ⌜ h ≡ headerOf (now m) ⌝ }
-    requires { ⌜ (number ≡ 0 → (headerNumber (now m) ≡ 0) × (contentNumber (chunkOf (now m)) (configurationOf k (now area)) (lengths (slices (now rows) (now levels))) ≡ 0)) ⌝ }
-    ensures { λ d. ⌜ WrittenBy number (now (m .entry)) (configurationOf k (now (area .entry))) (slices (now (rows .entry)) (now (levels .entry))) d (slices (now (rows .exit)) (now (levels .exit))) ⌝ }
+    requires { ⌜ (end ≤ length (now assembly)) × (end ≤ mostOctets) ⌝ }
+    requires { ⌜ (own ≡ 0 → (headerNumber (now m) ≡ 0) × (overLimit (sumsIn meters) ≡ false)) ⌝ }
+    ensures { λ d. ⌜ ((a : List ℕ) → Concluded own (wholeIn (now (m .entry)) (configurationOf k (now (area .entry))) (take end (now (assembly .entry)))) (configurationOf k (now (area .entry))) (sumsIn meters) (slices (now (rows .entry)) (now (levels .entry)) a) d (slices (now (rows .exit)) (now (levels .exit)) a)) ⌝ }
 {
-    let refuses = number != 0;
+    let refuses = own != 0;
     if refuses {
-        return no_counts();
+        return refused(own);
     }
-    let start = h.start;
-    let octets = data_of(m, start);
-    draw(h.chunk_type, k, area, octets, rows, levels)
+    let completes = h.last & is_fragment(h.chunk_type, k);
+    let octets = whole_octets(completes, m, h.start, assembly, end);
+    let chunk_type = whole_type(completes, h.chunk_type);
+    finish(chunk_type, k, area, octets, meters, rows, levels)
 }
 
 // The meters after what was written; they were as `before` says.
@@ -196,7 +235,7 @@ fn space_of(k: Config, area: &[u8; AREA]) -> u16
 
 // The reply to a message answered with a number.
 pub(crate) fn reply_of(number: u8, h: Header, k: Config, area: &[u8; AREA], drawn: Counts) -> Reply
-    ensures { λ r. ⌜ ((m : List ℕ) → h ≡ headerOf m → drawn ≡ countsWith number (chunkOf m) (configurationOf k (now (area .entry))) → r ≡ replyOf m number (configurationOf k (now (area .entry)))) ⌝ }
+    ensures { λ r. ⌜ ((m : List ℕ) (w : Gathering) → h ≡ headerOf m → drawn ≡ countsWith number (wholeOf m (configurationOf k (now (area .entry))) w) (configurationOf k (now (area .entry))) → r ≡ replyOf m number (configurationOf k (now (area .entry))) w) ⌝ }
 {
     let is_refusal = number != 0;
     if is_refusal {
@@ -221,24 +260,42 @@ pub(crate) fn reply_of(number: u8, h: Header, k: Config, area: &[u8; AREA], draw
 fn offer_in(
     channels: &mut [u8; RECORD],
     meters: &mut [u64; METERS],
+    gathered: &mut [u32; GATHERED],
     octets: &[u8],
     rows: &mut [i32],
     levels: &mut [u8],
+    assembly: &mut [u8],
 ) -> Reply
-    ensures { λ r. ⌜ Answered (recordIn (now (channels .entry)) (now (meters .entry))) (now (octets .entry)) (slices (now (rows .entry)) (now (levels .entry))) (outcome (recordIn (now (channels .exit)) (now (meters .exit))) r) (slices (now (rows .exit)) (now (levels .exit))) ⌝ }
+    ensures { λ r. ⌜ Answered (recordIn (now (channels .entry)) (now (meters .entry)) (now (gathered .entry))) (now (octets .entry)) (slices (now (rows .entry)) (now (levels .entry)) (now (assembly .entry))) (outcome (recordIn (now (channels .exit)) (now (meters .exit)) (now (gathered .exit))) r) (slices (now (rows .exit)) (now (levels .exit)) (now (assembly .exit))) ⌝ }
 {
-    mewkoast_offer_on(channels, meters, octets, rows, levels)
+    mewkoast_offer_on(channels, meters, gathered, octets, rows, levels, assembly)
 }
 
 impl Receiver {
     // One message offered with the slices lent for it: the reply, and the next receiver.
-    pub fn message(self, octets: &[u8], rows: &mut [i32], levels: &mut [u8]) -> Outcome
-        ensures { λ o. ⌜ Answered self (now (octets .entry)) (slices (now (rows .entry)) (now (levels .entry))) o (slices (now (rows .exit)) (now (levels .exit))) ⌝ }
+    pub fn message(
+        self,
+        octets: &[u8],
+        rows: &mut [i32],
+        levels: &mut [u8],
+        assembly: &mut [u8],
+    ) -> Outcome
+        ensures { λ o. ⌜ Answered self (now (octets .entry)) (slices (now (rows .entry)) (now (levels .entry)) (now (assembly .entry))) o (slices (now (rows .exit)) (now (levels .exit)) (now (assembly .exit))) ⌝ }
     {
         let mut receiver = self;
         let mut meters = receiver.meters;
-        let reply = offer_in(&mut receiver.channels, &mut meters, octets, rows, levels);
+        let mut gathered = receiver.gathered;
+        let reply = offer_in(
+            &mut receiver.channels,
+            &mut meters,
+            &mut gathered,
+            octets,
+            rows,
+            levels,
+            assembly,
+        );
         receiver.meters = meters;
+        receiver.gathered = gathered;
         Outcome { receiver, reply }
     }
 }

@@ -1,14 +1,21 @@
-// The receiver on a record that stays where the host keeps it: its octets and its meters are lent, and left as those of the next receiver.
+// The receiver on a record that stays where the host keeps it: its octets, its meters and the four numbers of what is gathered are lent, and
+// left as those of the next receiver.
 // No call copies the record. A host in Rattle and one in C make the same calls; the call that takes a receiver as a value is made of them.
 use super::Readings;
 use super::Reply;
 use super::channels::settle;
+use super::gather::gathered_after;
+use super::gather::gathered_in;
+use super::gather::no_gathered;
+use super::gather::set_gathered;
+use super::gather::take;
 use super::header;
+use super::message::conclude;
 use super::message::governing;
 use super::message::judge;
 use super::message::raise;
 use super::message::reply_of;
-use super::message::write;
+use super::record::GATHERED;
 use super::record::METERS;
 use super::record::RECORD;
 use super::record::bare_reply;
@@ -32,23 +39,28 @@ pub const CHANNEL_OCTETS: usize = RECORD;
 // How many meters it lends beside them.
 pub const METER_COUNT: usize = METERS;
 
+// How many numbers of what is gathered.
+pub const GATHERED_COUNT: usize = GATHERED;
+
 // Start on a record that is lent. Arrays of other lengths are no record, and stay as they are.
 #[no_mangle]
 pub extern "C" fn mewkoast_begin_on(
     channels: &mut [u8],
     meters: &mut [u64],
+    gathered: &mut [u32],
     lit_time: u64,
     points: u64,
     lit_points: u64,
 ) -> Reply
-    ensures { λ r. ⌜ StartedOn (sums «lit_time» points «lit_points») (recordIn (now (channels .entry)) (now (meters .entry))) (outcome (recordIn (now (channels .exit)) (now (meters .exit))) r) ⌝ }
+    ensures { λ r. ⌜ StartedOn (sums «lit_time» points «lit_points») (recordIn (now (channels .entry)) (now (meters .entry)) (now (gathered .entry))) (outcome (recordIn (now (channels .exit)) (now (meters .exit)) (now (gathered .exit))) r) ⌝ }
 {
-    let whole = is_record(channels, meters);
+    let whole = is_record(channels, meters, gathered);
     if !whole {
         return bare_reply(1);
     }
     clear(channels);
     set_meters(meters, starting(lit_time, points, lit_points));
+    set_gathered(gathered, no_gathered());
     start_reply(lit_time, points, lit_points)
 }
 
@@ -58,35 +70,44 @@ pub extern "C" fn mewkoast_begin_on(
 pub extern "C" fn mewkoast_offer_on(
     channels: &mut [u8],
     meters: &mut [u64],
+    gathered: &mut [u32],
     octets: &[u8],
     rows: &mut [i32],
     levels: &mut [u8],
+    assembly: &mut [u8],
 ) -> Reply
-    ensures { λ r. ⌜ Answered (recordIn (now (channels .entry)) (now (meters .entry))) (now (octets .entry)) (slices (now (rows .entry)) (now (levels .entry))) (outcome (recordIn (now (channels .exit)) (now (meters .exit))) r) (slices (now (rows .exit)) (now (levels .exit))) ⌝ }
+    ensures { λ r. ⌜ Answered (recordIn (now (channels .entry)) (now (meters .entry)) (now (gathered .entry))) (now (octets .entry)) (slices (now (rows .entry)) (now (levels .entry)) (now (assembly .entry))) (outcome (recordIn (now (channels .exit)) (now (meters .exit)) (now (gathered .exit))) r) (slices (now (rows .exit)) (now (levels .exit)) (now (assembly .exit))) ⌝ }
 {
-    let whole = is_record(channels, meters);
+    let whole = is_record(channels, meters, gathered);
     if !whole {
         return bare_reply(1);
     }
     let sums = readings_of(meters[0], meters[1], meters[2]);
+    let q = gathered_in(gathered);
     let h = header::read(octets);
     let mut area = [0u8; AREA];
     let found = governing(channels, sums, octets, h, &mut area);
-    let number = judge(
-        found,
-        &area,
-        channels,
-        sums,
-        h,
-        octets,
-        rows.len(),
-        levels.len(),
-    );
+    let own = judge(found, channels, sums, q, h, octets, assembly.len());
     let config = found.config;
-    let drawn = write(number, h, config, &area, octets, rows, levels);
+    let end = take(own, h, config, q, octets, assembly);
+    let done = conclude(
+        own,
+        h,
+        config,
+        &area,
+        octets,
+        assembly,
+        end,
+        sums,
+        rows,
+        levels,
+    );
+    let number = done.number;
+    let counts = done.counts;
     settle(number, h, config, &area, channels);
-    raise(meters, sums, drawn);
-    reply_of(number, h, config, &area, drawn)
+    set_gathered(gathered, gathered_after(number, h, config, q, end));
+    raise(meters, sums, counts);
+    reply_of(number, h, config, &area, counts)
 }
 
 // The three readings of meters that are lent.

@@ -28,6 +28,9 @@ pub const RECORD: usize = 6528;
 
 pub const METERS: usize = 3;
 
+// The numbers of what is gathered.
+pub const GATHERED: usize = 4;
+
 // The limit of each meter: ten million hours in microseconds.
 pub const LIMIT: u64 = 36_000_000_000_000_000;
 
@@ -106,6 +109,7 @@ fn fresh_record(lit_time: u64, points: u64, lit_points: u64) -> Receiver
 {
     Receiver {
         meters: [lit_time, points, lit_points],
+        gathered: [0; GATHERED],
         channels: [CLOSED; RECORD],
     }
 }
@@ -144,10 +148,10 @@ pub(crate) fn start_reply(lit_time: u64, points: u64, lit_points: u64) -> Reply
 }
 
 // Arrays that are lent are a record's: they have its lengths.
-pub(crate) fn is_record(channels: &[u8], meters: &[u64]) -> bool
-    ensures { λ r. ⌜ r ≡ sized (recordIn (now (channels .entry)) (now (meters .entry))) ⌝ }
+pub(crate) fn is_record(channels: &[u8], meters: &[u64], gathered: &[u32]) -> bool
+    ensures { λ r. ⌜ r ≡ sized (recordIn (now (channels .entry)) (now (meters .entry)) (now (gathered .entry))) ⌝ }
 {
-    (channels.len() == RECORD) & (meters.len() == METERS)
+    (channels.len() == RECORD) & ((meters.len() == METERS) & (gathered.len() == GATHERED))
 }
 
 // The meters of a record that is lent.

@@ -7,7 +7,7 @@ use Rattle.listing.proofs.list.Tie as tie
 -- ---- the steps, each from the one after it
 
 abbrev lent-of : tie.After-list-messages → tie.After-list-messages-arg
-lent-of c = c .before .before .before .before .before .before .before
+lent-of c = c .before .before .before .before .before .before .before .before .before
 
 abbrev start-of : tie.After-list-messages → tie.Start
 start-of c = lent-of c .before .before .before .before
@@ -23,13 +23,13 @@ count-of c = c .before .before .before .before
 put-cut-requires : tie.Need-put-cut-requires
 put-cut-requires c κs =
     let l = listed-of (count-of c) in
-    (l .list-messages .ensures .1 .1 .1, omega (arith, l .list-messages .kept .1 .1 .1 .1 .1 .1 .0, start-of l .pre))
+    (l .list-messages .ensures .1 .1 .1, omega (arith, l .list-messages .kept .1 .1 .1 .1 .1 .1 .1 .1 .0, start-of l .pre))
 
 put-meters-requires : tie.Need-put-meters-requires
 put-meters-requires c κs =
     let cut = c .before .before .before in
     let l = listed-of (count-of (cut .before)) in
-    (cut .put-cut .ensures .0 .fits, omega (arith, cut .put-cut .kept .1 .1 .0, l .list-messages .kept .1 .1 .1 .1 .1 .1 .0, start-of l .pre))
+    (cut .put-cut .ensures .0 .fits, omega (arith, cut .put-cut .kept .1 .1 .0, l .list-messages .kept .1 .1 .1 .1 .1 .1 .1 .1 .0, start-of l .pre))
 
 pub list-spec : {M : Type 1} → statement M
 list-spec =

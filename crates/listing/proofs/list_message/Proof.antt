@@ -7,9 +7,10 @@ use Rattle.listing.proofs.list_message.Tie as tie
 returns : tie.Need-returns
 returns c =
     let offered = c .before .before .before .before .before in
-    let levels = offered .before in
+    let assembly = offered .before in
+    let levels = assembly .before in
     let rows = levels .before in (
-      λ i. lent (rows .mewkoast-offer-on-arg3 .given .0 .1 i) (levels .mewkoast-offer-on-arg4 .given .0 .1 i),
+      λ i. lent (rows .mewkoast-offer-on-arg4 .given .0 .1 i) (levels .mewkoast-offer-on-arg5 .given .0 .1 i) (assembly .mewkoast-offer-on-arg6 .given .0 .1 i),
       (offered .mewkoast-offer-on .ensures, c .before .before .reply-line .ensures),
     )
 

@@ -19,17 +19,17 @@ use Rattle.listing.proofs.list_messages.Statement.{statement}
 use Rattle.listing.proofs.list_messages.Tie as tie
 
 abbrev Inv-loop : tie.InvT-loop
-Inv-loop channels₀ meters₀ octets₀ spare₀ rows₀ levels₀ out₀ output₀ unread₀ messages₀ channels meters octets spare rows levels out output unread messages =
-    Ready unread octets × (output .at ≤ length out) × (most < length octets) × (most ≤ length spare) × (room ≤ length out) × (length octets ≡ length octets₀) × (length spare ≡ length spare₀) × (length out ≡ length out₀) × Running messages (recordIn channels meters) (part (unread .from) (unread .end) octets)
+Inv-loop channels₀ meters₀ gathered₀ octets₀ spare₀ rows₀ levels₀ assembly₀ out₀ output₀ unread₀ messages₀ channels meters gathered octets spare rows levels assembly out output unread messages =
+    Ready unread octets × (output .at ≤ length out) × (most < length octets) × (most ≤ length spare) × (room ≤ length out) × (length octets ≡ length octets₀) × (length spare ≡ length spare₀) × (length out ≡ length out₀) × Running messages (recordIn channels meters gathered) assembly (part (unread .from) (unread .end) octets)
 
 abbrev μ-loop : tie.MeasureT-loop
-μ-loop channels₀ meters₀ octets₀ spare₀ rows₀ levels₀ out₀ output₀ unread₀ messages₀ channels meters octets spare rows levels out output unread messages =
+μ-loop channels₀ meters₀ gathered₀ octets₀ spare₀ rows₀ levels₀ assembly₀ out₀ output₀ unread₀ messages₀ channels meters gathered octets spare rows levels assembly out output unread messages =
     largest - messages
 
 -- ---- the steps, each from the one after it
 
 abbrev start-of : tie.After-start Inv-loop μ-loop → tie.Start Inv-loop μ-loop
-start-of c = c .before .before .before .before .before .before
+start-of c = c .before .before .before .before .before .before .before
 
 abbrev begun-of : tie.After-read-on Inv-loop μ-loop → tie.After-start Inv-loop μ-loop
 begun-of c = c .before .before .before .before
@@ -43,8 +43,8 @@ taken-of c = c .before .before
 abbrev room-of : tie.After-octets2 Inv-loop μ-loop → tie.After-make-room Inv-loop μ-loop
 room-of c = c .before .before
 
-abbrev message-of : tie.After-list-message-arg6 Inv-loop μ-loop → tie.After-octets2 Inv-loop μ-loop
-message-of c = c .before .before .before .before .before .before .before
+abbrev message-of : tie.After-list-message-arg8 Inv-loop μ-loop → tie.After-octets2 Inv-loop μ-loop
+message-of c = c .before .before .before .before .before .before .before .before .before
 
 abbrev listed-of : tie.After-flush-to-wait-arg2 Inv-loop μ-loop → tie.After-list-message Inv-loop μ-loop
 listed-of c = c .before .before .before .before
@@ -74,7 +74,7 @@ loop-holds c =
       refl,
       refl,
       refl,
-      record { input = _; messages = []; run = Listing.begun _ (begun .start .ensures) _; counted = refl },
+      record { input = _; messages = []; run = Listing.begun _ (begun .start .ensures) _ _; counted = refl },
     )
 
 make-room-requires : tie.Need-make-room-requires Inv-loop μ-loop
@@ -129,8 +129,8 @@ loop-again c =
     let read = end .read-on2 in
     let offered = listed-of (flush-of end .before) .list-message in
     let left = offered .last in
-    let left-slices = left .1 .1 .1 in
-    let added = offered .kept .1 .1 .1 .1 .1 .1 .0 in (
+    let left-slices = left .1 .1 .1 .1 in
+    let added = offered .kept .1 .1 .1 .1 .1 .1 .1 .1 .0 in (
       read .ensures .0,
       omega (arith, flush-of end .flush-to-wait .ensures .0),
       omega (arith, read .kept .1 .1 .0, inv .2),
@@ -139,8 +139,10 @@ loop-again c =
       omega (arith, read .kept .1 .1 .0, inv .5),
       omega (arith, read .kept .1 .1 .1 .0, inv .6),
       omega (arith, added, inv .7),
-      running-next (loop .unread) (read .result) (loop .octets) _ (inv .8) (inv .0) (has-message (loop .unread .size) (loop .messages) (goes-on turn)) (slices (loop .rows) (loop .levels)) (slices (left-slices .0) (left-slices .1 .0))
-          (outcome (recordIn (left .0) (left .1 .0)) (offered .result)) (offered .ensures .0) (offered .ensures .1 .0) (read .ensures .1 .0),
+      running-next (loop .unread) (read .result) (loop .octets) _
+          (slices (loop .rows) (loop .levels) (loop .assembly)) (slices (left-slices .0) (left-slices .1 .0) (left-slices .1 .1 .0))
+          (outcome (recordIn (left .0) (left .1 .0) (left .1 .1 .0)) (offered .result))
+          (inv .8) (inv .0) (has-message (loop .unread .size) (loop .messages) (goes-on turn)) (offered .ensures .0) (offered .ensures .1 .0) (read .ensures .1 .0),
     )
 
 returns : tie.Need-returns Inv-loop μ-loop
@@ -150,7 +152,7 @@ returns c =
       inv .0,
       (
         rw (← left .before .goes-on .ensures) (left .if1 .left),
-        (record { receiver = _; running = inv .8; shown = c .mewkoast-readings-on .ensures }, inv .1),
+        (record { receiver = _; assembly = _; running = inv .8; shown = c .mewkoast-readings-on .ensures }, inv .1),
       ),
     )
 

@@ -9,12 +9,13 @@ use Rattle.listing.proofs.start.Tie as tie
 
 returns : tie.Need-returns
 returns c =
-    let meters = c .before in
+    let gathered = c .before in
+    let meters = gathered .before in
     let channels = meters .before in
     let args = channels .before .args in
-    let both : sized (recordIn (now (args .channels)) (now (args .meters))) ≡ true =
-    rw (channels .mewkoast-begin-on-arg .given .0 .1, meters .mewkoast-begin-on-arg2 .given .0 .1) refl in
-    c .mewkoast-begin-on .ensures .started both
+    let all : sized (recordIn (now (args .channels)) (now (args .meters)) (now (args .gathered))) ≡ true =
+    rw (channels .mewkoast-begin-on-arg .given .0 .1, meters .mewkoast-begin-on-arg2 .given .0 .1, gathered .mewkoast-begin-on-arg3 .given .0 .1) refl in
+    c .mewkoast-begin-on .ensures .started all
 
 pub start-spec : {M : Type 1} → statement M
 start-spec = tie.close (tie.spec (λ c κs. search needs) returns)

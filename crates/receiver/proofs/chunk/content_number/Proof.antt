@@ -21,7 +21,7 @@ draw-number-requires c κs =
 
 returns : tie.Need-returns
 unfolding contentNumber
-returns c =
+returns c n =
     let d = c .before .before in
     let s = start-of d in
     let k = s .args .k in
@@ -31,7 +31,7 @@ returns c =
 
 returns-2 : tie.Need-returns-2
 unfolding contentNumber
-returns-2 c =
+returns-2 c n =
     let m = c .before .before .before in
     let d = m .before .before in
     let s = start-of d in
@@ -42,7 +42,7 @@ returns-2 c =
 
 returns-3 : tie.Need-returns-3
 unfolding contentNumber
-returns-3 c =
+returns-3 c n =
     let m = c .before in
     let d = m .before .before in
     let area = start-of d .args .area .now in

@@ -2,7 +2,7 @@
 use borrow.Author.Needs.{needs}
 use mathlib.Core.Path.{_≡_, sym, ap, _∙_}
 use mathlib.Core.Bool.{cond}
-use mathlib.Core.List.{List}
+use mathlib.Core.List.{List, []}
 use Prim.Native.Nat.{ℕ, _≤_}
 use native.Mathlib.Omega.{arith}
 use lib.ListN.{length}
@@ -15,12 +15,16 @@ use Rattle.tags.specs.Kept.{sampleIn, mappingIn}
 use Rattle.tags.specs.KeptLaws.{kept-octets}
 use Rattle.receiver.specs.Slices.{slices}
 use Rattle.receiver.specs.Chunk.{Chunk, chunk, body, litPointsFor}
-use Rattle.receiver.specs.Steps.{mostOctets}
+use Rattle.receiver.specs.Checks.{mostOctets}
 use Rattle.receiver.proofs.ChunkLaws.{lit-duration, points-few, lit-few, levels-few, drawn-rows, drawn-levels, drawn-none}
 use Rattle.receiver.proofs.draw.draw.Statement.{statement}
 use Rattle.receiver.proofs.draw.draw.Tie as tie
 use Rattle.receiver.proofs.draw.draw.Reads as reads
 use Rattle.receiver.proofs.draw.draw.Lts as lts
+
+-- the counts, and the slices with whatever assembly slice
+for-any : {P : Type 0} {Q : List ℕ → Type 0} → ((a : List ℕ) → P × Q a) → P × ((a : List ℕ) → Q a)
+for-any f = (f [] .0, λ a. f a .1)
 
 -- ---- the chunk and its channel at the start
 
@@ -101,14 +105,16 @@ returns c =
     let s = start-of (body-at d) in
     let layout = layout-at p .layout-in .ensures in
     let section = body-at d .body-of .ensures (s .args .chunk-type) in
-    drawn-rows (s .args .chunk-type) (s .args .octets .now) (s .args .k) (area s) (slices (s .args .rows .now) (s .args .levels .now))
+    for-any
+    (λ a.
+    drawn-rows (s .args .chunk-type) (s .args .octets .now) (s .args .k) (area s) (slices (s .args .rows .now) (s .args .levels .now) a)
     (c .counted-time .result) (p .points .result) (w .draw .result) _
     (sym (d .is-drawing .ensures (area s)) ∙ layout-at p .before .if1 .taken)
-    (s .pre .1 .1)
+    (s .pre .1 .1 (length a))
     (counted p)
     (shown w)
     (c .counted-time .ensures ∙ lit-duration (eqb (w .draw .result) 0) (c .before .duration-of .result) ∙ ap (λ (t : ℕ). cond (eqb (w .draw .result) 0) 0 t) (c .before .duration-of .ensures .0 (s .args .chunk-type)))
-    (rw (← ap (λ (a : Sample). a .roles) layout, ← ap (λ (a : Sample). a .waves) layout, ← section) (w .draw .ensures .0))
+    (rw (← ap (λ (a : Sample). a .roles) layout, ← ap (λ (a : Sample). a .waves) layout, ← section) (w .draw .ensures .0)))
 
 -- ---- dimmer levels
 
@@ -144,22 +150,26 @@ returns-2 c =
     let b = body-at (undrawn-at d) in
     let s = start-of b in
     let section = b .body-of .ensures (s .args .chunk-type) in
-    drawn-levels (s .args .chunk-type) (s .args .octets .now) (s .args .k) (area s) (slices (s .args .rows .now) (s .args .levels .now))
+    for-any
+    (λ a.
+    drawn-levels (s .args .chunk-type) (s .args .octets .now) (s .args .k) (area s) (slices (s .args .rows .now) (s .args .levels .now) a)
     (m .mode-in .result) (w .write .result) _
     (sym (d .is-dimming .ensures (area s)) ∙ m .before .before .if2 .taken)
-    (s .pre .1 .1)
+    (s .pre .1 .1 (length a))
     (m .mode-in .ensures)
     (written w)
-    (rw (← m .before .dimmer-in .ensures, ← section) (w .write .ensures .0))
+    (rw (← m .before .dimmer-in .ensures, ← section) (w .write .ensures .0)))
 
 returns-3 : tie.Need-returns-3
 returns-3 c =
     let d = c .before .before in
     let s = start-of (body-at (undrawn-at d)) in
     rw (c .no-counts .ensures)
-    (drawn-none (s .args .chunk-type) (s .args .octets .now) (s .args .k) (area s) (slices (s .args .rows .now) (s .args .levels .now))
+    (for-any
+    (λ a.
+    drawn-none (s .args .chunk-type) (s .args .octets .now) (s .args .k) (area s) (slices (s .args .rows .now) (s .args .levels .now) a)
     (sym (undrawn-at d .is-drawing .ensures (area s)) ∙ d .before .if1 .left)
-    (sym (d .is-dimming .ensures (area s)) ∙ c .before .if2 .left))
+    (sym (d .is-dimming .ensures (area s)) ∙ c .before .if2 .left)))
 
 pub draw-spec : {M : Type 1} → statement M
 draw-spec =

@@ -19,7 +19,7 @@ use Rattle.receiver.specs.Meters.{Sums, limit}
 use Rattle.receiver.specs.Checks.{meterNumber}
 use Rattle.receiver.specs.Record.{configurationOf}
 use Rattle.receiver.specs.Contract.{sumsIn}
-use Rattle.receiver.specs.Steps.{mostOctets}
+use Rattle.receiver.specs.Checks.{mostOctets}
 use Rattle.receiver.proofs.CheckLaws.{within-each}
 use Rattle.receiver.proofs.ChunkLaws.{lit-duration, lit-le-points, points-few}
 use Rattle.receiver.proofs.MeterLaws.{meter-idle, meter-drawing, meter-far}

@@ -17,6 +17,7 @@ use Rattle.receiver.specs.Steps.{RoutedTo, shownBy, Governed}
 use Rattle.receiver.specs.declared.header.Header.{Header}
 use Rattle.receiver.specs.declared.Config.{Config}
 use Rattle.receiver.specs.declared.Receiver.{Receiver}
+use Rattle.receiver.specs.declared.gather.Gathered.{Gathered}
 use Rattle.receiver.proofs.HeaderLaws.{header-channel, header-routing, header-start}
 use Rattle.receiver.proofs.CheckLaws.{data-start, routing-start, channel-below}
 use Rattle.receiver.proofs.PartLaws.{length-part}
@@ -42,16 +43,17 @@ entry-of c = start-of (sound-of (header-of c))
 
 -- ---- what was found on the way
 
-abbrev record-of : tie.Start → Receiver
-record-of s = shownBy (s .args .channels .now) (s .args .meters)
+-- the record, with whatever is gathered
+abbrev record-of : tie.Start → Gathered → Receiver
+record-of s q = shownBy (s .args .channels .now) (s .args .meters) q
 
 -- the flag is check 1: a record of these octets and three meters has its lengths
-good-is : (c : tie.After-sound) → c .sound .result ≡ consistent (record-of (start-of c))
+good-is : (c : tie.After-sound) (q : Gathered) → c .sound .result ≡ consistent (record-of (start-of c) q)
 unfolding consistent
-good-is c = rw (start-of c .pre .0 .0) (c .sound .ensures)
+good-is c q = rw (start-of c .pre .0 .0) (c .sound .ensures)
 
-good-at : (c : tie.Else1) → consistent (record-of (start-of (c .before))) ≡ true
-good-at c = sym (good-is (c .before)) ∙ not-false _ (c .if1 .left)
+good-at : (c : tie.Else1) (q : Gathered) → consistent (record-of (start-of (c .before)) q) ≡ true
+good-at c q = sym (good-is (c .before) q) ∙ not-false _ (c .if1 .left)
 
 well-formed : (c : tie.Else2) → headerNumber (entry-of c .args .m .now) ≡ 0
 well-formed c = sym (header-of c .header-number .ensures) ∙ eqb-true _ 0 (not-false _ (c .if2 .left))
@@ -71,8 +73,7 @@ returns : tie.Need-returns
 returns c =
     let k = c .before .before in
     let s = start-of k in (
-      governed-inconsistent (record-of s) (s .args .m .now) (c .none-found .result) (s .args .area .now) (c .none-found .ensures)
-          (sym (good-is k) ∙ not-true _ (c .before .if1 .taken)),
+      (λ q. governed-inconsistent (record-of s q) (s .args .m .now) (c .none-found .result) (s .args .area .now) (c .none-found .ensures) (sym (good-is k q) ∙ not-true _ (c .before .if1 .taken))),
       s .pre .0 .1,
     )
 
@@ -80,9 +81,7 @@ returns-2 : tie.Need-returns-2
 returns-2 c =
     let h = c .before .before in
     let s = start-of (sound-of h) in (
-      governed-header (record-of s) (s .args .m .now) (good-at (h .before)) (c .none-found2 .result) (s .args .area .now)
-          (rw (c .none-found2 .ensures) (c .before .if2 .taken))
-          (c .none-found2 .ensures ∙ h .header-number .ensures),
+      (λ q. governed-header (record-of s q) (s .args .m .now) (good-at (h .before) q) (c .none-found2 .result) (s .args .area .now) (rw (c .none-found2 .ensures) (c .before .if2 .taken)) (c .none-found2 .ensures ∙ h .header-number .ensures)),
       s .pre .0 .1,
     )
 
@@ -118,8 +117,7 @@ unfolding entry
 returns-3 c =
     let e = routing-of c in
     let s = entry c in (
-      governed-routed (record-of s) (s .args .m .now) (good-at (header-of (e .before) .before)) (well-formed (e .before))
-          (sym (routing-is s) ∙ e .if3 .taken) (c .route .result) (c .route .last .1 .1 .1 .1 .0) (found-at c),
+      (λ q. governed-routed (record-of s q) (s .args .m .now) (good-at (header-of (e .before) .before) q) (well-formed (e .before)) (sym (routing-is s) ∙ e .if3 .taken) (c .route .result) (c .route .last .1 .1 .1 .1 .0) (found-at c)),
       c .route .ensures .1,
     )
 
@@ -134,8 +132,9 @@ returns-4 c =
     let i = channelOf (s .args .m .now) in
     let config = c .config-at .ensures ∙ ap (configIn channels) (channel-is s) in
     let area = c .before .area-at .ensures ∙ ap (areaIn channels) (channel-is s) in (
-      subst₂ (λ (k : Config) (a : List ℕ). Governed (record-of s) (s .args .m .now) (record { number = 0; config = k }) a) (sym config) (sym area)
-          (governed-held (record-of s) (s .args .m .now) (good-at (header-of (e .before) .before)) (well-formed (e .before)) (sym (routing-is s) ∙ e .if3 .left)),
+      (λ q.
+          subst₂ (λ (k : Config) (a : List ℕ). Governed (record-of s q) (s .args .m .now) (record { number = 0; config = k }) a) (sym config) (sym area)
+          (governed-held (record-of s q) (s .args .m .now) (good-at (header-of (e .before) .before) q) (well-formed (e .before)) (sym (routing-is s) ∙ e .if3 .left))),
       ap length area ∙ length-part areaSize (areaPlace i) channels (rw (s .pre .0 .0) (let below = channel-below (s .args .m .now) in omega (arith, below))),
     )
 

@@ -3,20 +3,21 @@ use borrow.Author.Needs.{needs}
 use borrow.Author.Tests.{not-true, not-false, eqb-true}
 use mathlib.Core.Path.{_≡_, refl, sym, ap, _∙_}
 use mathlib.Core.Bool.{Bool, true, false, not, _&&_}
+use mathlib.Core.List.{List}
+use Prim.Native.Nat.{ℕ}
+use lib.ListN.{length}
 use lib.Dec.{eqb}
 use Rattle.tags.specs.Choice.{refuse, first}
 use Rattle.receiver.specs.Modes.{exclusiveMode, channelCount}
-use Rattle.receiver.specs.Slices.{Lent, lent}
 use Rattle.receiver.specs.Governing.{Configuration}
 use Rattle.receiver.specs.Chunk.{Chunk, chunk, chunkOf}
-use Rattle.receiver.specs.Checks.{headerNumber, holderNumber, closedNumber, matchNumber, contentNumber, meterNumber}
-use Rattle.receiver.specs.Record.{openState, channelsOf, configurationOf, sumsOf}
-use Rattle.receiver.specs.Contract.{messageNumber}
-use Rattle.receiver.specs.Steps.{shownBy, heldStates, Governed}
+use Rattle.receiver.specs.Checks.{headerNumber, holderNumber, closedNumber, sequelNumber, matchNumber, roomNumber}
+use Rattle.receiver.specs.Record.{openState, channelsOf, gatheringOf, configurationOf}
+use Rattle.receiver.specs.Steps.{shownBy, heldStates, Governed, ownNumberOf}
 use Rattle.receiver.specs.declared.Receiver.{Receiver}
 use Rattle.receiver.proofs.HeaderLaws.{header-channel, header-type, header-routing, header-mode, header-start}
 use Rattle.receiver.proofs.CheckLaws.{data-start, data-length}
-use Rattle.receiver.proofs.JudgeLaws.{consistent-limit, holder-states, number-refused, governed-good, governed-header-passed, number-later, closed-state}
+use Rattle.receiver.proofs.JudgeLaws.{holder-states, number-refused, number-later, closed-state}
 use Rattle.receiver.proofs.message.judge.Statement.{statement}
 use Rattle.receiver.proofs.message.judge.Tie as tie
 use Rattle.receiver.proofs.message.judge.Reads as reads
@@ -33,32 +34,27 @@ found-at c = c .before
 abbrev holder-at : tie.Else3 → tie.After-has-holder
 holder-at c = c .before .before .before .before .before
 
-abbrev open-at : tie.After-data-of → tie.Else3
+abbrev open-at : tie.After-sequel-number → tie.Else3
 open-at c = c .before
+
+abbrev sequel-at : tie.After-data-of → tie.After-sequel-number
+sequel-at c = c .before .before
 
 abbrev data-at : tie.After-match-number → tie.After-data-of
 data-at c = c .before
 
-abbrev match-at : tie.After-content-number → tie.After-match-number
+abbrev match-at : tie.After-room-number → tie.After-match-number
 match-at c = c .before .before
 
-abbrev entry-of : tie.After-data-of → tie.Start
-entry-of c = start-of (found-at (holder-at (open-at c)))
+-- where the number found was 0
+abbrev passed-at : tie.After-sequel-number → tie.Else1
+passed-at c = found-at (holder-at (open-at c))
 
 -- ---- what is judged
 
 module _ (s : tie.Start) where
   abbrev r : Receiver
-  r = shownBy (s .args .channels .now) (s .args .meters)
-
-  abbrev room : Lent
-  room = lent (s .args .rows) (s .args .levels)
-
-  governed : Governed r (s .args .m .now) (s .args .found) (s .args .area .now)
-  governed = s .pre .1 .1
-
-  abbrev v : Configuration
-  v = configurationOf (s .args .found .config) (s .args .area .now)
+  r = shownBy (s .args .channels .now) (s .args .meters) (s .args .q)
 
   -- check 15
   held-is : holderNumber (s .args .m .now) (channelsOf r)
@@ -72,143 +68,143 @@ module _ (s : tie.Start) where
 passed : (c : tie.Else1) → start-of c .args .found .number ≡ 0
 passed c = eqb-true _ 0 (not-false _ (c .if1 .left))
 
--- the checks that are left
-later : (c : tie.Else1)
-    → let s = start-of c in
-    messageNumber (r s) (s .args .m .now) (room s)
-    ≡ first (holderNumber (s .args .m .now) (channelsOf (r s)))
-    (first (closedNumber (s .args .m .now) (channelsOf (r s)))
-    (first (matchNumber (chunkOf (s .args .m .now)) (v s))
-    (first (contentNumber (chunkOf (s .args .m .now)) (v s) (room s))
-    (meterNumber (chunkOf (s .args .m .now)) (v s) (sumsOf (r s))))))
-later c =
-    let s = start-of c in
-    number-later (r s) (s .args .m .now) (s .args .found) (s .args .area .now) (governed s) (passed c) (room s)
-
 well-formed : (c : tie.Else1) → headerNumber (start-of c .args .m .now) ≡ 0
-well-formed c =
-    let s = start-of c in governed-header-passed (r s) (s .args .m .now) (s .args .found) (s .args .area .now) (governed s) (passed c)
+well-formed c = start-of c .pre .1 .1 (passed c)
 
 holder-is : (c : tie.After-has-holder)
     → let s = start-of (found-at c) in
     holderNumber (s .args .m .now) (channelsOf (r s)) ≡ refuse (c .has-holder .result) 15
 holder-is c = held-is (start-of (found-at c)) ∙ ap (λ (b : Bool). refuse b 15) (sym (c .has-holder .ensures))
 
--- check 16
-closed-is : (c : tie.Else1)
-    → let s = start-of c in
-    closedNumber (s .args .m .now) (channelsOf (r s)) ≡ refuse (not (s .args .h .routing) && eqb (s .args .found .config .state) 0) 16
-closed-is c =
-    let s = start-of c in
-    let routing = sym (header-routing (s .args .h) (s .args .m .now) (s .pre .1 .0)) in
-    closed-state (r s) (s .args .m .now) (s .args .found) (s .args .area .now) (governed s) (passed c)
-    ∙ (λ i. refuse (not (routing i) && not (openState (s .args .found .config .state))) 16)
-    ∙ ap (λ (b : Bool). refuse (not (s .args .h .routing) && b) 16) (not-not (eqb (s .args .found .config .state) 0))
-  where
-    not-not : (b : Bool) → not (not b) ≡ b
-    not-not true = refl
-    not-not false = refl
-
 -- the chunk that is judged is the message's
-chunk-is : (c : tie.After-data-of) → chunk (entry-of c .args .h .«chunk_type») (c .data-of .result .now) ≡ chunkOf (entry-of c .args .m .now)
+chunk-is : (c : tie.After-data-of)
+    → let s = start-of (passed-at (sequel-at c)) in
+    chunk (s .args .h .«chunk_type») (c .data-of .result .now) ≡ chunkOf (s .args .m .now)
 chunk-is c =
-    let s = entry-of c in
+    let s = start-of (passed-at (sequel-at c)) in
     λ i. chunk (header-type (s .args .h) (s .args .m .now) (s .pre .1 .0) i) (c .data-of .ensures .0 i)
 
--- what was passed on the way to the chunk
-module _ (c : tie.Else3) where
-  abbrev entry : tie.Start
-  entry = start-of (found-at (holder-at c))
+-- no other channel holds the mode
+not-held : (c : tie.Else3)
+    → let s = start-of (found-at (holder-at c)) in
+    holderNumber (s .args .m .now) (channelsOf (r s)) ≡ 0
+not-held c = holder-is (holder-at c) ∙ ap (λ (b : Bool). refuse b 15) (c .before .before .before .before .if2 .left)
 
-  not-held : holderNumber (entry .args .m .now) (channelsOf (r entry)) ≡ 0
-  not-held = holder-is (holder-at c) ∙ ap (λ (b : Bool). refuse b 15) (c .before .before .before .before .if2 .left)
+-- ---- by what governs
 
-  not-closed : closedNumber (entry .args .m .now) (channelsOf (r entry)) ≡ 0
-  not-closed = closed-is (found-at (holder-at c)) ∙ ap (λ (b : Bool). refuse b 16) (c .if3 .left)
+module _ (c : tie.Else1) (area a : List ℕ)
+    (governed : Governed (r (start-of c)) (start-of c .args .m .now) (start-of c .args .found) area) where
+  abbrev s : tie.Start
+  s = start-of c
 
-matched : (c : tie.After-match-number)
-    → c .match-number .result ≡ matchNumber (chunkOf (entry-of (data-at c) .args .m .now)) (v (entry-of (data-at c)))
-matched c =
-    let d = data-at c in
-    let s = entry-of d in
-    c .match-number .ensures (s .args .area .now) ∙ ap (λ (k : Chunk). matchNumber k (v s)) (chunk-is d)
+  abbrev v : Configuration
+  v = configurationOf (s .args .found .config) area
 
-contained : (c : tie.After-content-number)
-    → let s = entry-of (data-at (match-at c)) in
-    c .content-number .result ≡ contentNumber (chunkOf (s .args .m .now)) (v s) (room s)
-contained c =
-    let d = data-at (match-at c) in
-    let s = entry-of d in
-    c .content-number .ensures ∙ ap (λ (k : Chunk). contentNumber k (v s) (room s)) (chunk-is d)
+  -- the checks that are left
+  later : ownNumberOf (r s) (s .args .m .now) (s .args .assembly) a
+      ≡ first (holderNumber (s .args .m .now) (channelsOf (r s)))
+      (first (closedNumber (s .args .m .now) (channelsOf (r s)))
+      (first (sequelNumber (s .args .m .now) v (gatheringOf (r s) a))
+      (first (matchNumber (chunkOf (s .args .m .now)) v)
+      (roomNumber (s .args .m .now) v (gatheringOf (r s) a) (s .args .assembly)))))
+  later = number-later (r s) (s .args .m .now) (s .args .found) area governed (passed c) (s .args .assembly) a
+
+  -- check 16
+  closed-is : closedNumber (s .args .m .now) (channelsOf (r s)) ≡ refuse (not (s .args .h .routing) && eqb (s .args .found .config .state) 0) 16
+  closed-is =
+      let routing = sym (header-routing (s .args .h) (s .args .m .now) (s .pre .1 .0)) in
+      closed-state (r s) (s .args .m .now) (s .args .found) area governed (passed c)
+      ∙ (λ i. refuse (not (routing i) && not (openState (s .args .found .config .state))) 16)
+      ∙ ap (λ (b : Bool). refuse (not (s .args .h .routing) && b) 16) (not-not (eqb (s .args .found .config .state) 0))
+    where
+      not-not : (b : Bool) → not (not b) ≡ b
+      not-not true = refl
+      not-not false = refl
 
 -- ---- the needs
 
 returns : tie.Need-returns
-returns c =
+returns c area a governed =
     let s = c .before .before .before .before in
-    number-refused (r s) (s .args .m .now) (s .args .found) (s .args .area .now) (governed s) (room s) (c .if1 .taken)
+    number-refused (r s) (s .args .m .now) (s .args .found) area governed (s .args .assembly) a (c .if1 .taken)
 
 returns-2 : tie.Need-returns-2
-returns-2 c =
+returns-2 c area a governed =
     let e = c .before in
     let held = holder-is e ∙ ap (λ (b : Bool). refuse b 15) (c .if2 .taken) in
-    sym (later (found-at e) ∙ rw held)
+    sym (later (found-at e) area a governed ∙ rw held)
 
 returns-3 : tie.Need-returns-3
-returns-3 c =
+returns-3 c area a governed =
     let e = c .before .before .before .before .before in
     let held = holder-is e ∙ ap (λ (b : Bool). refuse b 15) (c .before .before .before .before .if2 .left) in
-    let closed = closed-is (found-at e) ∙ ap (λ (b : Bool). refuse b 16) (c .if3 .taken) in
-    sym (later (found-at e) ∙ rw (held, closed))
+    let closed = closed-is (found-at e) area a governed ∙ ap (λ (b : Bool). refuse b 16) (c .if3 .taken) in
+    sym (later (found-at e) area a governed ∙ rw (held, closed))
+
+-- checks 15 and 16 are passed, and the later ones give the number
+module _ (c : tie.After-sequel-number) (area a : List ℕ)
+    (governed : Governed (r (start-of (passed-at c))) (start-of (passed-at c) .args .m .now) (start-of (passed-at c) .args .found) area) where
+  abbrev e : tie.Start
+  e = start-of (passed-at c)
+
+  abbrev u : Configuration
+  u = configurationOf (e .args .found .config) area
+
+  open-number : ownNumberOf (r e) (e .args .m .now) (e .args .assembly) a
+      ≡ first (c .sequel-number .result)
+      (first (matchNumber (chunkOf (e .args .m .now)) u)
+      (roomNumber (e .args .m .now) u (gatheringOf (r e) a) (e .args .assembly)))
+  open-number =
+      let o = open-at c in
+      let closed = closed-is (passed-at c) area a governed ∙ ap (λ (b : Bool). refuse b 16) (o .if3 .left) in
+      later (passed-at c) area a governed
+      ∙ rw (not-held o, closed, ← c .sequel-number .ensures (e .args .m .now) area a (e .pre .1 .0))
+
+returns-4 : tie.Need-returns-4
+returns-4 c area a governed =
+    let n = c .before in
+    sym (open-number n area a governed ∙ rw (not-true (eqb (n .sequel-number .result) 0) (c .if4 .taken)))
 
 data-of-requires : tie.Need-data-of-requires
 data-of-requires c κs =
-    let f = found-at (holder-at c) in
+    let f = passed-at (c .before) in
     let s = start-of f in
     let start = header-start (s .args .h) (s .args .m .now) (s .pre .1 .0) in
     (start, rw start (data-start (s .args .m .now) (well-formed f)))
 
-few-octets : tie.Need-content-number-requires
-few-octets c κs =
-    let d = data-at (c .before) in
-    let f = found-at (holder-at (open-at d)) in
-    (start-of f .pre .0 .1, rw (d .data-of .ensures .0) (data-length (start-of f .args .m .now) (well-formed f)))
-
-returns-4 : tie.Need-returns-4
-returns-4 c =
-    let n = c .before in
-    let o = open-at (data-at n) in
-    sym (later (found-at (holder-at o)) ∙ rw (not-held o, not-closed o, ← matched n, not-true (eqb (n .match-number .result) 0) (c .if4 .taken)))
+matched : (c : tie.After-match-number) (area : List ℕ)
+    → let s = start-of (passed-at (sequel-at (data-at c))) in
+    c .match-number .result ≡ matchNumber (chunkOf (s .args .m .now)) (configurationOf (s .args .found .config) area)
+matched c area =
+    let d = data-at c in
+    let s = start-of (passed-at (sequel-at d)) in
+    c .match-number .ensures area ∙ ap (λ (k : Chunk). matchNumber k (configurationOf (s .args .found .config) area)) (chunk-is d)
 
 returns-5 : tie.Need-returns-5
-returns-5 c =
-    let b = c .before in
-    let n = match-at b in
-    let o = open-at (data-at n) in
+returns-5 c area a governed =
+    let n = c .before in
+    let d = data-at n in
+    let q = sequel-at d in
     sym
-    (later (found-at (holder-at o))
-    ∙ rw (not-held o, not-closed o, ← matched n, not-false (eqb (n .match-number .result) 0) (b .before .if4 .left), ← contained b, not-true (eqb (b .content-number .result) 0) (c .if5 .taken)))
+    (open-number q area a governed
+    ∙ rw (not-false (eqb (q .sequel-number .result) 0) (d .before .if4 .left), ← matched n area, not-true (eqb (n .match-number .result) 0) (c .if5 .taken)))
 
-meter-number-requires : tie.Need-meter-number-requires
-meter-number-requires c κs =
-    let b = c .before in
-    let f = found-at (holder-at (open-at (data-at (match-at b)))) in
-    let s = start-of f in
-    let few = few-octets (b .before) κs in
-    (few .0, (few .1, consistent-limit (r s) (governed-good (r s) (s .args .m .now) (s .args .found) (s .args .area .now) (governed s) (passed f))))
+room-number-requires : tie.Need-room-number-requires
+room-number-requires c κs =
+    let d = data-at (c .before) in
+    let f = passed-at (sequel-at d) in
+    rw (d .data-of .ensures .0) (data-length (start-of f .args .m .now) (well-formed f))
 
 returns-6 : tie.Need-returns-6
-returns-6 c =
-    let b = c .before .before in
-    let n = match-at b in
+returns-6 c area a governed =
+    let n = match-at c in
     let d = data-at n in
-    let o = open-at d in
-    let s = entry-of d in
-    c .meter-number .ensures
-    ∙ ap (λ (k : Chunk). meterNumber k (v s) (sumsOf (r s))) (chunk-is d)
+    let q = sequel-at d in
+    let s = start-of (passed-at q) in
+    c .room-number .ensures (s .args .m .now) area a (s .pre .1 .0) (ap length (d .data-of .ensures .0))
     ∙ sym
-    (later (found-at (holder-at o))
-    ∙ rw (not-held o, not-closed o, ← matched n, not-false (eqb (n .match-number .result) 0) (b .before .if4 .left), ← contained b, not-false (eqb (b .content-number .result) 0) (c .before .if5 .left)))
+    (open-number q area a governed
+    ∙ rw (not-false (eqb (q .sequel-number .result) 0) (d .before .if4 .left), ← matched n area, not-false (eqb (n .match-number .result) 0) (c .before .if5 .left)))
 
 pub judge-spec : {M : Type 1} → statement M
 judge-spec =
@@ -218,10 +214,10 @@ judge-spec =
     (λ c κs. search needs)
     returns-2
     returns-3
-    data-of-requires
     (λ c κs. search needs)
     returns-4
-    few-octets
+    data-of-requires
+    (λ c κs. search needs)
     returns-5
-    meter-number-requires
+    room-number-requires
     returns-6)

@@ -9,12 +9,12 @@ use Rattle.receiver.proofs.message.reply_of.Tie as tie
 
 returns : tie.Need-returns
 unfolding replyOf
-returns c m header counts =
+returns c m w header counts =
     rw (not-true (eqb (c .before .before .args .number) 0) (c .before .if1 .taken)) (c .bare-reply .ensures)
 
 returns-2 : tie.Need-returns-2
 unfolding replyOf headerOf
-returns-2 c m header counts =
+returns-2 c m w header counts =
     let accepted = not-false (eqb (c .before .before .before .args .number) 0) (c .before .before .if1 .left) in
     rw (accepted, c .space-of .ensures, header, rw accepted at counts)
 

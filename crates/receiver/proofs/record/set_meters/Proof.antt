@@ -1,6 +1,6 @@
 -- `receiver::record::set_meters` meets its contract: three stores make the list of the three.
 use borrow.Author.Needs.{needs}
-use Rattle.receiver.proofs.AnswerLaws.{three-stored}
+use Rattle.receiver.proofs.SizedLaws.{three-stored}
 use Rattle.receiver.proofs.record.set_meters.Statement.{statement}
 use Rattle.receiver.proofs.record.set_meters.Tie as tie
 
