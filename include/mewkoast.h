@@ -3,7 +3,7 @@
  *
  * Sections: 1 refusal numbers of the tag layer, 2 the dictionary check,
  * 3 samples to rows, 4 dimmer levels, 5 the receiver with all 26 numbers.
- * Checks and limits are those of document 01 and of the requests C-11 and C-12;
+ * Checks and limits are those of document 01 and of the requests C-11 to C-13;
  * messages and tags are those of IDN-Stream, Revision 001.
  *
  * For x86-64 Linux. Link target/staticlib/libreceiver.a (`rt staticlib
@@ -25,7 +25,7 @@
 #include <stddef.h>
 #include <stdint.h>
 
-#define MEWKOAST_VERSION "0.7.0"
+#define MEWKOAST_VERSION "0.8.0"
 
 #ifdef __cplusplus
 extern "C" {
@@ -262,9 +262,11 @@ typedef struct {
  *   26  the assembly slice is too short for the octets of the frame so far, or
  *       they are over 1,000,000,000; any frame that is gathered is dropped
  *
- * They are tried in this order, but 24 and 25 after 16, and 26 after 19. Checks
- * 5 and 17 to 19 pass a sequel by; 20 to 23 are asked of the whole frame, at
- * its last fragment. In mode 0 fragments are accepted and ignored.
+ * They are tried in this order, but 24 and 25 after 16, and 15 and 26 after 19:
+ * a message that asks for mode 1 while another channel has it, and whose SCM
+ * differs from its SDM, gets 19, and its own channel is closed. Checks 5 and
+ * 17 to 19 pass a sequel by; 20 to 23 are asked of the whole frame, at its last
+ * fragment. In mode 0 fragments are accepted and ignored.
  *
  * An accepted message has number 0, its channel, chunk type and timestamp, the
  * space modifier in force (0 if none), its points, lit points and the levels

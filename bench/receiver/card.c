@@ -13,6 +13,7 @@ struct message {
     const uint8_t *octets, *data;
     size_t length;
     uint8_t channel, type, routing, closing;
+    uint8_t held; /* another channel has the mode that it routes to */
 };
 
 static uint32_t word_at(const uint8_t *octets)
@@ -66,7 +67,7 @@ static uint8_t read_header(const uint8_t *octets, size_t length, struct message 
     m->type = octets[3];
     if (m->type > TYPE_FIRST && m->type != TYPE_LEVELS && m->type != TYPE_SEQUEL)
         return 4;
-    m->routing = m->closing = 0;
+    m->routing = m->closing = m->held = 0;
     /* In a sequel the bit marks the last one. */
     if (octets[2] & 0x40 && m->type != TYPE_SEQUEL) {
         start = CONFIGURED;
@@ -202,7 +203,7 @@ static uint8_t match_chunk(uint8_t state, const struct card_channel *channel,
 }
 
 /*
- * Checks 17 to 26. One place takes the samples of a frame in one message and of
+ * Checks 15 and 17 to 26. One place takes the samples of a frame in one message and of
  * one in fragments, so that the reply stays in registers.
  */
 static uint8_t read_chunk(struct card *card, uint8_t state,
@@ -215,7 +216,7 @@ static uint8_t read_chunk(struct card *card, uint8_t state,
     if (state == CARD_VOID)
         return 0;
     if (m->type == TYPE_VOID)
-        return m->length != 0 ? 18 : 0;
+        return m->length != 0 ? 18 : m->held ? 15 : 0;
     if (m->type == TYPE_SEQUEL) {
         number = take_sequel(card, m, lent, &whole);
         if (number != 0 || !(m->octets[2] & 0x40))
@@ -226,6 +227,8 @@ static uint8_t read_chunk(struct card *card, uint8_t state,
         number = match_chunk(state, channel, m);
         if (number != 0)
             return number;
+        if (m->held)
+            return 15;
         if (m->type == TYPE_LEVELS)
             return take_levels(&channel->plan.dimmer, m, lent, reply);
         if (m->type == TYPE_FIRST)
@@ -254,7 +257,7 @@ static struct card_reply take_chunk(struct card *card, uint8_t state,
     return number == 0 ? reply : refusal(number);
 }
 
-/* Check 15. */
+/* Check 15, which C-13 puts behind 19. */
 static int another_wave(const struct card *card, uint8_t channel)
 {
     int found = 0;
@@ -269,7 +272,7 @@ static int another_wave(const struct card *card, uint8_t channel)
  * message is accepted. Out of line: its plan is not on the stack of the others.
  */
 static __attribute__((noinline)) struct card_reply
-route(struct card *card, const struct message *m, const struct card_lent *lent)
+route(struct card *card, struct message *m, const struct card_lent *lent)
 {
     struct card_channel next;
     struct card_reply reply;
@@ -279,8 +282,7 @@ route(struct card *card, const struct message *m, const struct card_lent *lent)
     number = card_configuration(m->octets, &state, &next);
     if (number != 0)
         return refusal(number);
-    if (state == CARD_WAVE && another_wave(card, m->channel))
-        return refusal(15);
+    m->held = state == CARD_WAVE && another_wave(card, m->channel);
     reply = take_chunk(card, state, &next, m, lent);
     /* A routing drops what was gathered, but not what it began itself. */
     if (reply.number == 0 && (m->type != TYPE_FIRST || state != CARD_FRAME))

@@ -1,6 +1,7 @@
 //! In what the two builds differ on one start or message.
 
 use crate::builds::Given;
+use crate::lent::Lent;
 use decoder::message::SEQUEL;
 use decoder::receiver::Reply;
 
@@ -21,7 +22,7 @@ pub struct Kind {
 impl Kind {
     /// None where nothing differs. Without octets it is a start.
     pub fn of(before: &Given, now: &Given, octets: Option<&[u8]>) -> Option<Kind> {
-        let parts = parts(before, now);
+        let parts = parts(before, now, octets);
         if parts.is_empty() {
             return None;
         }
@@ -39,7 +40,7 @@ impl Kind {
 /// The names of what differs: fields of the reply, the slices, the arrays of the
 /// record and the data section. The margins of slices and arrays count as a part
 /// of them.
-fn parts(before: &Given, now: &Given) -> Vec<&'static str> {
+fn parts(before: &Given, now: &Given, octets: Option<&[u8]>) -> Vec<&'static str> {
     let mut parts = of_reply(&before.reply, &now.reply);
     let (old, new) = (&before.slices, &now.slices);
     let (record, after) = (&before.record, &now.record);
@@ -52,10 +53,29 @@ fn parts(before: &Given, now: &Given) -> Vec<&'static str> {
         ("meter points", meters[1] != risen[1]),
         ("meter lit_points", meters[2] != risen[2]),
         ("gathered", record.gathered != after.gathered),
-        ("channel octets", record.channels != after.channels),
         ("data section", before.section != now.section),
     ]));
+    if record.channels != after.channels {
+        let alone =
+            octets.is_some_and(|octets| only_state(&record.channels, &after.channels, octets));
+        parts.push(if alone {
+            "state of its channel"
+        } else {
+            "channel octets"
+        });
+    }
     parts
+}
+
+/// Whether the channels differ in the state of the message's own channel and in
+/// nothing else: the states of all channels stand first.
+fn only_state(old: &Lent<u8>, new: &Lent<u8>, octets: &[u8]) -> bool {
+    let Some(own) = octets.get(2).map(|octet| usize::from(octet % 64)) else {
+        return false;
+    };
+    let mut closed = old.clone();
+    closed.slice()[own] = new.read()[own];
+    closed == *new
 }
 
 /// Fields of the reply under their names in include/mewkoast.h. Where the

@@ -68,7 +68,8 @@ impl Content {
     }
 }
 
-/// Checks 17 to 22 of a chunk that is whole.
+/// Checks 17 to 22 of a chunk that is whole. Check 15 of a routing stands
+/// between 19 and 20 (request C-13) and is not among these.
 pub fn read(governing: &Governing, kind: u8, data: &[u8], lent: Lent) -> Result<Content, u32> {
     begin(governing, kind, data)?;
     whole(governing, kind, data, lent)

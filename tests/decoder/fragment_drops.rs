@@ -23,7 +23,7 @@ const TWO: &str = "00000064 010200 0304FF 05";
 
 /// The message has this number and drops the gathering; "dropping writes no
 /// octet".
-fn drops(message: &str, number: u32) {
+pub fn drops(message: &str, number: u32) {
     let mut host = gathering();
     assert_eq!(host.number(&octets(message)), number, "{message}");
     assert_eq!(host.receiver.gathering(), None, "{message}");
@@ -39,7 +39,7 @@ fn drops(message: &str, number: u32) {
 }
 
 /// The message has this number and leaves the gathering alone.
-fn keeps(message: &str, number: u32) {
+pub fn keeps(message: &str, number: u32) {
     let mut host = gathering();
     let before = host.receiver.readings();
     assert_eq!(host.number(&octets(message)), number, "{message}");

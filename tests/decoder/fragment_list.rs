@@ -12,13 +12,13 @@ use crate::table::octets;
 /// A message and the number that it has.
 type Line<'a> = (u32, &'a str);
 
-/// Offers a list with slices of one length and gives the last readings. Both
-/// the rule and the receiver must have the numbers and the same sums after
-/// each message.
-fn readings(start: [u64; 3], assembly: usize, list: &[Line]) -> [u64; 3] {
+/// Offers a list with slices of one length, rows for 20 points among them, and
+/// gives the last readings. Both the rule and the receiver must have the
+/// numbers and the same sums after each message.
+pub fn readings(start: [u64; 3], assembly: usize, list: &[Line]) -> [u64; 3] {
     let messages: Vec<Vec<u8>> = list.iter().map(|(_, text)| octets(text)).collect();
     let lent = Lent {
-        rows: 240,
+        rows: 480,
         levels: 1_024,
         assembly,
     };
@@ -26,7 +26,7 @@ fn readings(start: [u64; 3], assembly: usize, list: &[Line]) -> [u64; 3] {
     let offered: Vec<Offered> = messages.iter().map(|octets| offer(octets)).collect();
     let verdicts = verdicts(start, &offered);
     let (mut receiver, _) = Receiver::start(start[0], start[1], start[2]);
-    let (mut rows, mut levels) = ([0; 240], [0; 1_024]);
+    let (mut rows, mut levels) = ([0; 480], [0; 1_024]);
     let mut slice = vec![0; assembly];
     for (place, (number, text)) in list.iter().enumerate() {
         let reply = receiver.message(&messages[place], &mut rows, &mut levels, &mut slice);

@@ -1,4 +1,4 @@
-//! A second decoder, written from document 01, requests C-11 and C-12 of
+//! A second decoder, written from document 01, requests C-11 to C-13 of
 //! document 02 and source document 003 alone. The tests compare the proved
 //! functions with it. What generates messages for the comparisons is in
 //! tests/generate.
@@ -40,3 +40,7 @@ mod receiver_edges;
 mod receiver_table;
 #[cfg(test)]
 mod table;
+#[cfg(test)]
+mod two_checks;
+#[cfg(test)]
+mod two_checks_list;

@@ -1,8 +1,9 @@
-//! The look-back rule: document 01, "Meters and the look-back rule", and
-//! request C-12: "Where the host lends the assembly slice unaltered and at one
-//! length for as long as a frame is gathered, demand 3 holds with split frames
-//! too". Nothing is kept from message to message but the list itself and the
-//! numbers and additions already worked out for its earlier messages.
+//! The look-back rule: document 01, "Meters and the look-back rule", request
+//! C-12: "Where the host lends the assembly slice unaltered and at one length
+//! for as long as a frame is gathered, demand 3 holds with split frames too",
+//! and request C-13: "histories are metered under the new order". Nothing is
+//! kept from message to message but the list itself and the numbers and
+//! additions already worked out for its earlier messages.
 
 use crate::chunk::{self, Content, Lent};
 use crate::message::{self, Channel, Message, FIRST, SEQUEL};
@@ -81,7 +82,7 @@ impl<'a> Past<'a> {
         Ok(adds)
     }
 
-    /// Checks 17 to 22 and 24 to 26.
+    /// Checks 15, 17 to 22 and 24 to 26.
     fn content(
         &self,
         message: &Message,
@@ -93,22 +94,29 @@ impl<'a> Past<'a> {
             FIRST | SEQUEL if governing.mode == 0 => Ok(Content::Nothing),
             FIRST => self.first(message, governing, lent),
             SEQUEL => self.sequel(message, governing, lent),
-            kind => chunk::read(governing, kind, message.data, lent),
+            kind => {
+                self.begin(message, governing)?;
+                chunk::whole(governing, kind, message.data, lent)
+            }
         }
     }
 
-    /// "a message with Routing is governed by itself", with checks 6 to 15;
+    /// Request C-13: "For messages with Routing, 17, 18 and 19 are now tried
+    /// before 15."
+    pub fn begin(&self, message: &Message, governing: &Governing) -> Result<(), u32> {
+        chunk::begin(governing, message.kind, message.data)?;
+        match message.routing {
+            Some(own) if own.mode == 1 && self.mode_1_elsewhere(message.channel) => Err(15),
+            _ => Ok(()),
+        }
+    }
+
+    /// "a message with Routing is governed by itself", with checks 6 to 14;
     /// another by what is in force, with check 16.
     fn governing(&self, message: &Message) -> Result<Governing, u32> {
         match &message.routing {
             None => self.in_force(message.channel).ok_or(16),
-            Some(routing) => {
-                let own = route::check(routing)?;
-                if own.mode == 1 && self.mode_1_elsewhere(message.channel) {
-                    return Err(15);
-                }
-                Ok(own)
-            }
+            Some(routing) => route::check(routing),
         }
     }
 

@@ -1,6 +1,6 @@
 //! The receiver: document 01, "Checks, in order", "Meters and the look-back
-//! rule" and "Calls and layers", and request C-12. Check 1 cannot occur in it,
-//! because nothing but its own functions changes a receiver.
+//! rule" and "Calls and layers", and requests C-12 and C-13. Check 1 cannot
+//! occur in it, because nothing but its own functions changes a receiver.
 
 use crate::chunk::{self, Content, Lent};
 use crate::dimmer::{self, PLACES};
@@ -142,7 +142,7 @@ impl Receiver {
         Ok(reply)
     }
 
-    /// Checks 17 to 22 of a chunk in one message.
+    /// Checks 17 to 19, 15 and 20 to 22 of a chunk in one message.
     fn chunk(
         &mut self,
         message: &Message,
@@ -195,7 +195,8 @@ impl Receiver {
         chunk::whole(governing, FRAME, frame, slices.lengths())
     }
 
-    /// Checks 17 to 19.
+    /// Checks 17 to 19, then 15: request C-13, "For messages with Routing, 17,
+    /// 18 and 19 are now tried before 15".
     fn begin(&mut self, message: &Message, governing: &Governing) -> Result<(), u32> {
         let begun = chunk::begin(governing, message.kind, message.data);
         // "A refusal changes no record, meter or slice; only 19 closes the
@@ -205,7 +206,13 @@ impl Receiver {
             self.channels[usize::from(message.channel.0)] = None;
             self.drop_on(message.channel);
         }
-        begun
+        begun?;
+        // "With Routing to mode 1, another open channel has mode 1."
+        let to_mode_1 = message.routing.is_some() && governing.mode == 1;
+        if to_mode_1 && self.another_wave(message.channel) {
+            return Err(15);
+        }
+        Ok(())
     }
 
     /// Check 26, "which drops any gathering".
@@ -242,18 +249,13 @@ impl Receiver {
         self.gathering = self.gathering.filter(|held| !held.is_on(channel));
     }
 
-    /// Checks 6 to 16: what governs the message.
+    /// Checks 6 to 14 and 16: what governs the message.
     fn governed(&self, message: &Message) -> Result<Governing, u32> {
-        let Some(routing) = &message.routing else {
+        match &message.routing {
+            Some(routing) => route::check(routing),
             // "Without Routing, the channel is closed."
-            return self.governing(message.channel).cloned().ok_or(16);
-        };
-        let governing = route::check(routing)?;
-        // "With Routing to mode 1, another open channel has mode 1."
-        if governing.mode == 1 && self.another_wave(message.channel) {
-            return Err(15);
+            None => self.governing(message.channel).cloned().ok_or(16),
         }
-        Ok(governing)
     }
 
     fn another_wave(&self, own: Channel) -> bool {

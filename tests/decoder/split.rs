@@ -17,7 +17,7 @@ impl<'a> Past<'a> {
         governing: &Governing,
         lent: Lent,
     ) -> Result<Content, u32> {
-        chunk::begin(governing, message.kind, message.data)?;
+        self.begin(message, governing)?;
         room(message.data.len(), lent.assembly)?;
         Ok(Content::Nothing)
     }

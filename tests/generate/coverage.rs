@@ -1,10 +1,10 @@
-//! Which situations of document 01 and of requests C-11 and C-12 the generated
+//! Which situations of document 01 and of requests C-11 to C-13 the generated
 //! streams reach, and how often. Each of them must occur.
 
 use crate::assembly::LONGEST;
 use crate::random::Random;
 use crate::stream::{stream, Offer, Stream};
-use crate::{first_point, split_frames, split_table};
+use crate::{first_point, split_frames, split_table, two_checks};
 use decoder::message::{self, Message, FRAME, LEVELS, SEQUEL, VOID, WAVE};
 use decoder::receiver::{added, Receiver, Reply, LIMIT};
 use decoder::route::{self, Governing, Tags};
@@ -226,10 +226,12 @@ fn situations_of_generated_streams() {
         let number = follow(&stream, |case| case.note(&mut counts));
         count(&mut counts, format!("start {number}"));
         split_frames::follow(&stream, |situation| count(&mut counts, situation));
+        two_checks::follow(&stream, |situation| count(&mut counts, situation));
     }
     let often = first_point::SITUATIONS
         .iter()
-        .chain(&split_table::SITUATIONS);
+        .chain(&split_table::SITUATIONS)
+        .chain(&two_checks::SITUATIONS);
     let often = often.map(|(situation, least, _)| (situation.to_string(), *least));
     let any = situations().into_iter().map(|situation| (situation, 5));
     for (situation, least) in any.chain(often) {

@@ -38,13 +38,19 @@ fn first(step: &Step, message: &Message) -> Vec<String> {
             list.extend(room(step).map(|room| format!("first, 26, {room}")));
             list
         }
-        number @ (5 | 15 | 16 | 18) => vec![format!("first, {number}")],
+        // 15 never refuses one: 17 stands before it (request C-13), and type 0x03
+        // does not go with mode 1.
+        number @ (5 | 16 | 18) => vec![format!("first, {number}")],
         _ => Vec::new(),
     }
 }
 
 fn accepted_first(step: &Step, message: &Message, routing: &str) -> Vec<String> {
-    let was = if step.open { "open" } else { "closed" };
+    let was = if step.open.is_some() {
+        "open"
+    } else {
+        "closed"
+    };
     let place = step.place();
     let mut list = vec![
         format!("first, accepted, {place}"),

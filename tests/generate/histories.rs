@@ -1,13 +1,13 @@
 //! The decoder's receiver against its look-back rule on generated streams, how
 //! often each number occurs in them, and how many of them hold each situation
-//! of requests C-11 and C-12.
+//! of requests C-11 to C-13.
 
 use crate::assembly::LONGEST;
 use crate::coverage::follow;
 use crate::end_to_end::end_to_end;
 use crate::random::Random;
 use crate::stream::{stream, Offer, Stream};
-use crate::{first_point, split_frames, split_table};
+use crate::{first_point, split_frames, split_table, two_checks};
 use decoder::listing::listing;
 use decoder::lookback::{sums, verdicts, Offered};
 use decoder::message::SEQUEL;
@@ -55,7 +55,8 @@ fn generated_streams() {
     }
     let table = first_point::SITUATIONS
         .iter()
-        .chain(&split_table::SITUATIONS);
+        .chain(&split_table::SITUATIONS)
+        .chain(&two_checks::SITUATIONS);
     for (situation, _, least) in table {
         let count = decided.iter().filter(|of| of.contains(*situation)).count();
         println!("{count} histories: {situation}");
@@ -63,11 +64,14 @@ fn generated_streams() {
     }
 }
 
-/// The situations of requests C-11 and C-12 that a history holds.
+/// The situations of requests C-11 to C-13 that a history holds.
 fn situations(stream: &Stream) -> BTreeSet<String> {
     let mut list = BTreeSet::new();
     follow(stream, |case| list.extend(first_point::situations(case)));
     split_frames::follow(stream, |situation| {
+        list.insert(situation);
+    });
+    two_checks::follow(stream, |situation| {
         list.insert(situation);
     });
     list

@@ -41,7 +41,8 @@ fn outcome(step: &Step) -> &'static str {
     }
 }
 
-fn of(message: &Message) -> &'static str {
+/// What kind of chunk a message carries.
+pub fn of(message: &Message) -> &'static str {
     match message.kind {
         VOID => "Void chunk",
         FRAME => "whole frame",

@@ -5,6 +5,7 @@
 //! know what a channel has come to; what is expected of a message is the
 //! decoder's to say.
 
+mod asking;
 pub mod assembly;
 mod between;
 mod damage;
@@ -37,3 +38,5 @@ mod split_frames;
 mod split_table;
 #[cfg(test)]
 mod steps;
+#[cfg(test)]
+mod two_checks;

@@ -1,6 +1,7 @@
 //! The split frames of a stream (request C-12): when one begins, on which
 //! channel, and what comes between its fragments.
 
+use crate::asking::asking_or_first;
 use crate::assembly::Lengths;
 use crate::between::Gathered;
 use crate::data::data;
@@ -8,8 +9,8 @@ use crate::draft::{mode_and_service, routed, unrouted, Draft};
 use crate::limits::room;
 use crate::random::Random;
 use crate::split::Split;
-use crate::words::words;
-use decoder::dictionary::{self, Layout};
+use crate::words::accepted_words;
+use decoder::dictionary::Layout;
 use decoder::message::{Channel, FIRST};
 use decoder::receiver::Receiver;
 use decoder::route::{Governing, Tags};
@@ -17,6 +18,10 @@ use decoder::route::{Governing, Tags};
 /// In so many of 100 streams frames are sent in fragments; in the others a
 /// fragment comes by chance.
 const SPLIT: usize = 60;
+
+/// So many of 100 messages that come between fragments ask for mode 1 on their
+/// channel where another one has it, or on another where none has it.
+const ASKING: usize = 30;
 
 /// What a stream has of split frames.
 pub struct Sender {
@@ -65,7 +70,7 @@ impl Sender {
             lengths.begin(random, receiver.gathering(), &split.sums());
             self.splits.push(split);
         } else if random.chance(self.between) {
-            return self.between(random, receiver);
+            return self.between(random, receiver, channels);
         }
         if self.splits.is_empty() {
             return None;
@@ -88,7 +93,12 @@ impl Sender {
     }
 
     /// A message on the channel of a frame on its way, or none, for any other.
-    fn between(&self, random: &mut Random, receiver: &Receiver) -> Option<Vec<u8>> {
+    fn between(
+        &self,
+        random: &mut Random,
+        receiver: &Receiver,
+        channels: &[u8],
+    ) -> Option<Vec<u8>> {
         let split = self.splits.first()?;
         if random.chance(45) {
             return None;
@@ -98,7 +108,10 @@ impl Sender {
             open: receiver.governing(split.channel()),
             room: room(receiver),
         };
-        Some(gathered.between(random).octets())
+        let asked = (random.chance(ASKING))
+            .then(|| asking_or_first(random, receiver, split.channel(), channels));
+        let draft = asked.flatten();
+        Some(draft.unwrap_or_else(|| gathered.between(random)).octets())
     }
 }
 
@@ -122,19 +135,12 @@ fn whole(random: &mut Random, receiver: &Receiver, channels: &[u8]) -> Draft {
     } else {
         mode_and_service(random)
     };
+    // A frame that is refused at its first fragment has no others.
     let words = accepted_words(random, to.0);
     let close = random.chance(5);
     routed(random, channel, to, words, |random, governing| {
         (FIRST, close, frame(random, governing, room))
     })
-}
-
-/// Words that open the channel, as a frame that is refused at its first
-/// fragment has no others.
-fn accepted_words(random: &mut Random, mode: u8) -> Vec<u8> {
-    let mut choices = (0..4).map(|_| words(random, mode));
-    let accepted = |words: &Vec<u8>| mode != 2 || dictionary::check(2, words).is_ok();
-    choices.find(accepted).unwrap_or_default()
 }
 
 /// The octets of a frame, now and then more than one message holds.

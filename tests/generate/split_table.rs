@@ -5,9 +5,8 @@
 /// histories of histories.rs. Each number is at most half of the least that
 /// 24 seeds gave.
 #[rustfmt::skip]
-pub const SITUATIONS: [(&str, u64, usize); 176] = [
+pub const SITUATIONS: [(&str, u64, usize); 175] = [
     // "The first message carries the chunk header and may carry configuration".
-    ("first, 15", 13, 5),
     ("first, 16", 757, 157),
     ("first, 17, mode 1", 111, 42),
     ("first, 17, mode 4", 99, 40),

@@ -1,6 +1,7 @@
-//! The messages of a stream with what is gathered before and after each:
-//! request C-12.
+//! The messages of a stream with what is gathered before and after each
+//! (request C-12) and which channel has mode 1 before it (request C-13).
 
+use crate::asking::holder;
 use crate::assembly::LONGEST;
 use crate::stream::{Offer, Stream};
 use decoder::message::{self, Channel, Message, SEQUEL};
@@ -12,8 +13,12 @@ pub struct Step<'a> {
     pub offer: &'a Offer,
     /// None if it cannot be read.
     pub message: Option<Message<'a>>,
-    /// Whether its channel was open before it.
-    pub open: bool,
+    /// The mode of its channel before it; none if that was closed.
+    pub open: Option<u8>,
+    /// The channel that has mode 1 before it.
+    pub holder: Option<Channel>,
+    /// The readings before it.
+    pub readings: [u64; 3],
     /// What governs it; none if its channel is closed or its words are
     /// refused.
     pub governing: Option<Governing>,
@@ -96,7 +101,8 @@ pub fn follow(stream: &Stream, mut note: impl FnMut(&Step)) {
         let read = message::read(&offer.octets).ok();
         let open = read.and_then(|message| receiver.governing(message.channel).cloned());
         let routing = read.and_then(|message| message.routing);
-        let before = receiver.gathering();
+        let (before, readings) = (receiver.gathering(), receiver.readings());
+        let holder = holder(&receiver);
         let mut rows = vec![0; offer.lent.rows];
         let mut levels = vec![0; offer.lent.levels];
         let lent = &mut assembly[..offer.lent.assembly];
@@ -104,7 +110,9 @@ pub fn follow(stream: &Stream, mut note: impl FnMut(&Step)) {
         let step = Step {
             offer,
             message: read,
-            open: open.is_some(),
+            open: open.as_ref().map(|governing| governing.mode),
+            holder,
+            readings,
             governing: match routing {
                 Some(routing) => route::check(&routing).ok(),
                 None => open,

@@ -1,6 +1,7 @@
 //! Random streams of messages for the receiver, with the lengths of the
 //! slices lent with each. The same seed gives the same streams.
 
+use crate::asking::asking;
 use crate::assembly::{Lengths, LONGEST};
 use crate::damage::damage;
 use crate::data::data;
@@ -12,7 +13,10 @@ use decoder::chunk::Lent;
 use decoder::lookback::Offered;
 use decoder::message::{self, Channel, Message, SEQUEL};
 use decoder::receiver::Receiver;
-use decoder::route::{self, Tags};
+use decoder::route::{self, Governing, Tags};
+
+/// So many of 100 messages ask for mode 1, where another channel has it.
+const ASKING: usize = 8;
 
 /// One message and the lengths of the slices lent with it.
 #[derive(Clone, Debug)]
@@ -55,6 +59,7 @@ pub fn stream(random: &mut Random, most: usize) -> Stream {
         assembly: vec![0; LONGEST],
         lengths: Lengths::new(random, sender.splits()),
         sender,
+        asked: None,
     };
     let mut offers: Vec<Offer> = Vec::new();
     let mut steady = true;
@@ -82,6 +87,9 @@ struct Maker {
     assembly: Vec<u8>,
     lengths: Lengths,
     sender: Sender,
+    /// The channel of the latest message that asked for mode 1 while another
+    /// had it, and what governed it before. Messages that fit this follow.
+    asked: Option<(Channel, Option<Governing>)>,
 }
 
 impl Maker {
@@ -120,14 +128,25 @@ impl Maker {
         octets
     }
 
-    fn draft(&self, random: &mut Random) -> Draft {
+    fn draft(&mut self, random: &mut Random) -> Draft {
+        let room = room(&self.receiver);
+        if let Some((channel, was)) = self.asked.take().filter(|_| random.chance(50)) {
+            let kind = kind(random, was.as_ref());
+            let data = data(random, was.as_ref(), kind, room);
+            return Draft::plain(random, channel, kind, data);
+        }
         let channel = Channel(random.pick(&self.channels));
         let open = self.receiver.governing(channel);
+        let asked = (random.chance(ASKING)).then(|| asking(random, &self.receiver, channel));
+        if let Some(draft) = asked.flatten() {
+            self.asked = Some((channel, open.cloned()));
+            return draft;
+        }
         if random.chance(if open.is_some() { 30 } else { 75 }) {
-            return routing(random, channel, room(&self.receiver));
+            return routing(random, channel, room);
         }
         let kind = kind(random, open);
-        let data = data(random, open, kind, room(&self.receiver));
+        let data = data(random, open, kind, room);
         let mut draft = Draft::plain(random, channel, kind, data);
         if random.chance(45) {
             unrouted(random, &mut draft);

@@ -2,6 +2,7 @@
 //! most of them accepted, the others for each of the numbers 8 to 14.
 
 use crate::random::Random;
+use decoder::dictionary;
 
 /// The octets of configuration words for a mode; their count is a multiple
 /// of 4 and at most 1,020.
@@ -14,6 +15,16 @@ pub fn words(random: &mut Random, mode: u8) -> Vec<u8> {
             random.octets(4 * count)
         }
     }
+}
+
+/// The same, with few dictionaries that are refused among them.
+pub fn accepted_words(random: &mut Random, mode: u8) -> Vec<u8> {
+    let mut choices = (0..4).map(|_| words(random, mode));
+    let accepted = |words: &Vec<u8>| match mode {
+        1 | 2 => dictionary::check(u32::from(mode), words).is_ok(),
+        _ => true,
+    };
+    choices.find(accepted).unwrap_or_default()
 }
 
 /// A dictionary as a list of groups of tags that stay together.

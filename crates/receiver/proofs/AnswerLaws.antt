@@ -18,7 +18,7 @@ use Rattle.receiver.specs.Slices.{Slices, slices, lengths}
 use Rattle.receiver.specs.Chunk.{Chunk, chunk, chunkOf, isFragment}
 use Rattle.receiver.specs.Gathering.{Gathering, placeIn, endIn, soFar, completes, wholeOf}
 use Rattle.receiver.specs.Meters.{plus, overLimit, addedBy}
-use Rattle.receiver.specs.Checks.{headerNumber, governs, roomNumber, ownNumber, wholeNumber, numberOf}
+use Rattle.receiver.specs.Checks.{headerNumber, governs, roomNumber, wholeNumber, numberOf, ownNumber}
 use Rattle.receiver.specs.Effects.{replyOf, drawn, ofWhole, takes, assemblyAfter, slicesAfter, sumsAfter, gatheringAfter}
 use Rattle.receiver.specs.Record.{recordIn, gatheredIn, gatheringIn, gatheringOf, standingOf, channelsOf, configurationOf, sumsOf, consistent}
 use Rattle.receiver.specs.Contract.{outcome, readingsOf, messageNumber, changes, AnsweredWith, Answered}
@@ -27,7 +27,7 @@ use Rattle.receiver.specs.declared.Receiver.{Receiver}
 use Rattle.receiver.specs.declared.Outcome.{Outcome}
 use Rattle.receiver.specs.declared.route.Found.{Found}
 use Rattle.receiver.specs.declared.draw.Done.{Done}
-use Rattle.receiver.proofs.CheckLaws.{channel-below, plus-zero, within-each, sumsAfter-within}
+use Rattle.receiver.proofs.CheckLaws.{numberOf-own, numberOf-whole, channel-below, plus-zero, within-each, sumsAfter-within}
 use Rattle.receiver.proofs.SettleLaws.{length-settled}
 use Rattle.receiver.proofs.GatherLaws.{four-gathered, room-ends, soFar-put, gatheringAfter-in}
 use Rattle.receiver.proofs.WholeLaws.{own-not-whole, takes-taken}
@@ -116,7 +116,6 @@ module _ (r : Receiver) (z : Sized r) (m : List ℕ) (s : Slices) (f : Found) (a
 
       -- the number is the message's
       pub numbered : n ≡ messageNumber r m s
-      unfolding numberOf
       numbered = number-first ∙ go (eqb own 0) (consistent r) refl refl
         where
           go : (b c : Bool) → eqb own 0 ≡ b → consistent r ≡ c → cond b whole own ≡ messageNumber r m s
@@ -124,9 +123,11 @@ module _ (r : Receiver) (z : Sized r) (m : List ℕ) (s : Slices) (f : Found) (a
               let passed = eqb-true own 0 e in
               let good = sound-record passed in
               let zero : ownNumber m (length a) (standingOf r a) ≡ 0 = rw good at (own-zero passed) in
-              rw (good, zero) (ap (λ (x : Configuration). wholeNumber (wholeOf m x g) x (lengths s) (sumsOf r)) (same-governed passed))
+              rw good
+              (ap (λ (x : Configuration). wholeNumber (wholeOf m x g) x (lengths s) (sumsOf r)) (same-governed passed)
+              ∙ sym (numberOf-whole m (lengths s) (standingOf r a) zero))
           go false true e h =
-              let same : own ≡ ownNumber m (length a) (standingOf r a) = judged ∙ rw h in rw (h, ← same, e)
+              let same : own ≡ ownNumber m (length a) (standingOf r a) = judged ∙ rw h in rw (h, numberOf-own m (lengths s) (standingOf r a), ← same, e)
           go false false e h = judged ∙ rw h
 
       -- an acceptance passed its own checks

@@ -15,13 +15,13 @@ use Rattle.receiver.specs.Governing.{Configuration}
 use Rattle.receiver.specs.Slices.{Slices, Lent, lengths}
 use Rattle.receiver.specs.Chunk.{fragmentType, isFragment}
 use Rattle.receiver.specs.Gathering.{Gathering, noGathering, placeIn, endIn, grown, wholeOf}
-use Rattle.receiver.specs.Checks.{governs, sequelNumber, Standing, governedIn, ownNumber, wholeNumber, numberOf}
+use Rattle.receiver.specs.Checks.{governs, sequelNumber, Standing, governedIn, wholeNumber, numberOf, ownNumber}
 use Rattle.receiver.specs.Effects.{ofWhole, takes, assemblyAfter, slicesAfter, drops, gatheringAfter}
 use Rattle.receiver.specs.Record.{channelsOf, gatheringOf, standingOf, consistent}
 use Rattle.receiver.specs.Contract.{messageNumber, Answered}
 use Rattle.receiver.specs.declared.Receiver.{Receiver}
 use Rattle.receiver.specs.declared.Outcome.{Outcome}
-use Rattle.receiver.proofs.CheckLaws.{own-passed}
+use Rattle.receiver.proofs.CheckLaws.{numberOf-own, own-passed}
 use Rattle.receiver.proofs.GatherLaws.{room-ends}
 use Rattle.receiver.proofs.WholeLaws.{own-not-whole}
 
@@ -43,8 +43,7 @@ module _ (m : List ℕ) (lent : Lent) (b : Standing) where
 
     -- it passed its own checks: it was accepted, or the whole was refused
     taken-own : own ≡ 0
-    unfolding numberOf
-    taken-own = go (eqb own 0) refl taken
+    taken-own = go (eqb own 0) refl (rw (numberOf-own m lent b) at taken)
       where
         go : (t : Bool) → eqb own 0 ≡ t → takes m (cond t (wholeNumber (wholeOf m v w) v lent (b .sums)) own) v ≡ true → own ≡ 0
         go true e h = eqb-true own 0 e

@@ -1,14 +1,14 @@
 -- Laws about the checks in their order: what a message that is accepted has passed, and what it leaves of the meters.
-use mathlib.Core.Path.{_≡_, refl, ap}
-use Prim.Native.Nat.{ℕ, _<_, _≤_}
+use mathlib.Core.Path.{_≡_, refl, sym, ap, _∙_}
+use Prim.Native.Nat.{ℕ, zero, suc, _<_, _≤_}
 use native.Mathlib.Nat.{add-zero, add-assoc, le-refl, le-trans}
 use mathlib.Core.Bool.{Bool, true, false, cond, not, _&&_, _||_}
-use mathlib.Core.List.{List}
+use mathlib.Core.List.{List, [], _∷_}
 use native.Mathlib.Omega.{arith}
 use lib.ListN.{length, length-drop}
-use lib.Dec.{ltb, eqb, lit≤}
+use lib.Dec.{ltb, eqb, eqb·suc-zero, lit≤}
 use borrow.Author.Tests.{eqb-true, ltb-false}
-use Rattle.tags.specs.Choice.{refuse}
+use Rattle.tags.specs.Choice.{refuse, first}
 use Rattle.tags.specs.ChoiceLaws.{and-left, or-false-left, or-false-right, first-zero-left, first-zero-right, refuse-zero}
 use Rattle.receiver.specs.Message.{totalSize, topBit, channelOf, typeOf, configured, routes, dataStart, dataOf}
 use Rattle.receiver.specs.Modes.{exclusiveMode, channelCount}
@@ -17,8 +17,54 @@ use Rattle.receiver.specs.Slices.{Lent}
 use Rattle.receiver.specs.Chunk.{chunkOf, knownType}
 use Rattle.receiver.specs.Gathering.{Gathering, wholeOf}
 use Rattle.receiver.specs.Meters.{Sums, sums, plus, limit, overLimit, NotAbove, addedBy}
-use Rattle.receiver.specs.Checks.{leastMessage, largestMessage, mostOctets, wrongLength, passesEnd, headerNumber, routingNumber, routeNumber, heldElsewhere, holderNumber, closedNumber, governs, sequelNumber, matchNumber, roomNumber, contentNumber, meterNumber, Standing, governedIn, ownNumber, wholeNumber, numberOf}
+use Rattle.receiver.specs.Checks.{leastMessage, largestMessage, mostOctets, wrongLength, passesEnd, headerNumber, routingNumber, routeNumber, heldElsewhere, holderNumber, closedNumber, governs, sequelNumber, matchNumber, roomNumber, contentNumber, meterNumber, Standing, governedIn, wholeNumber, firstOf, inOrder, numberOf, ownNumber}
 use Rattle.receiver.specs.Effects.{sumsAfter}
+
+-- ---- the order: the checks on the message itself, then those on the whole
+
+-- checks in a row, put in brackets the other way
+pub first-assoc : (a b c : ℕ) → first a (first b c) ≡ first (first a b) c
+first-assoc a b c = go (eqb a 0) refl
+  where
+    go : (t : Bool) → eqb a 0 ≡ t → cond t (first b c) a ≡ first (cond t b a) c
+    go true e = refl
+    go false e = rw e
+
+-- with no check behind it
+pub first-none : (n : ℕ) → first n 0 ≡ n
+first-none zero = refl
+first-none (suc n) = rw (eqb·suc-zero n)
+
+-- several in a row, and what comes behind them
+firstOf-first : (ns : List ℕ) (behind : ℕ) → firstOf ns behind ≡ first (firstOf ns 0) behind
+firstOf-first [] behind = refl
+firstOf-first (n ∷ ns) behind = ap (λ (k : ℕ). first n k) (firstOf-first ns behind) ∙ first-assoc n (firstOf ns 0) behind
+
+pub inOrder-own : (m : List ℕ) (assembly : ℕ) (b : Standing) (whole : ℕ) → inOrder m assembly b whole ≡ first (ownNumber m assembly b) whole
+unfolding inOrder
+inOrder-own m assembly b whole =
+    let v = governedIn m b in
+    firstOf-first
+    (headerNumber m
+    ∷ routeNumber m
+    ∷ closedNumber m (b .channels)
+    ∷ sequelNumber m v (b .gathering)
+    ∷ matchNumber (chunkOf m) v
+    ∷ holderNumber m (b .channels)
+    ∷ roomNumber m v (b .gathering) assembly
+    ∷ [])
+    whole
+
+pub numberOf-own : (m : List ℕ) (lent : Lent) (b : Standing)
+    → numberOf m lent b
+    ≡ first (ownNumber m (lent .assembly) b) (wholeNumber (wholeOf m (governedIn m b) (b .gathering)) (governedIn m b) lent (b .sums))
+unfolding numberOf
+numberOf-own m lent b = inOrder-own m (lent .assembly) b _
+
+-- of a message that passed its own checks
+pub numberOf-whole : (m : List ℕ) (lent : Lent) (b : Standing) → ownNumber m (lent .assembly) b ≡ 0
+    → numberOf m lent b ≡ wholeNumber (wholeOf m (governedIn m b) (b .gathering)) (governedIn m b) lent (b .sums)
+numberOf-whole m lent b passed = numberOf-own m lent b ∙ rw passed
 
 -- ---- the order: every check was passed
 
@@ -26,34 +72,34 @@ use Rattle.receiver.specs.Effects.{sumsAfter}
 pub record OwnPassed (m : List ℕ) (assembly : ℕ) (b : Standing) : Type 0 where
   pub header : headerNumber m ≡ 0
   pub route : routeNumber m ≡ 0
-  pub holder : holderNumber m (b .channels) ≡ 0
   pub closed : closedNumber m (b .channels) ≡ 0
   pub sequel : sequelNumber m (governedIn m b) (b .gathering) ≡ 0
   pub matched : matchNumber (chunkOf m) (governedIn m b) ≡ 0
+  pub holder : holderNumber m (b .channels) ≡ 0
   pub room : roomNumber m (governedIn m b) (b .gathering) assembly ≡ 0
 
 pub own-passed : (m : List ℕ) (assembly : ℕ) (b : Standing) → ownNumber m assembly b ≡ 0 → OwnPassed m assembly b
-unfolding ownNumber
+unfolding inOrder
 own-passed m assembly b e =
     let r = first-zero-right (headerNumber m) _ e in
-    let h = first-zero-right (routeNumber m) _ r in
-    let c = first-zero-right (holderNumber m (b .channels)) _ h in
+    let c = first-zero-right (routeNumber m) _ r in
     let q = first-zero-right (closedNumber m (b .channels)) _ c in
     let k = first-zero-right (sequelNumber m (governedIn m b) (b .gathering)) _ q in
+    let h = first-zero-right (matchNumber (chunkOf m) (governedIn m b)) _ k in
+    let l = first-zero-right (holderNumber m (b .channels)) _ h in
     record {
       header = first-zero-left (headerNumber m) _ e;
       route = first-zero-left (routeNumber m) _ r;
-      holder = first-zero-left (holderNumber m (b .channels)) _ h;
       closed = first-zero-left (closedNumber m (b .channels)) _ c;
       sequel = first-zero-left (sequelNumber m (governedIn m b) (b .gathering)) _ q;
       matched = first-zero-left (matchNumber (chunkOf m) (governedIn m b)) _ k;
-      room = first-zero-right (matchNumber (chunkOf m) (governedIn m b)) _ k;
+      holder = first-zero-left (holderNumber m (b .channels)) _ h;
+      room = first-zero-left (roomNumber m (governedIn m b) (b .gathering) assembly) _ l;
     }
 
 -- and of an accepted one those on the whole too
 pub accepted-own : (m : List ℕ) (lent : Lent) (b : Standing) → numberOf m lent b ≡ 0 → ownNumber m (lent .assembly) b ≡ 0
-unfolding numberOf
-accepted-own m lent b e = first-zero-left (ownNumber m (lent .assembly) b) _ e
+accepted-own m lent b e = first-zero-left (ownNumber m (lent .assembly) b) _ (sym (numberOf-own m lent b) ∙ e)
 
 -- ---- the header
 
@@ -149,11 +195,11 @@ not-above-trans a b c p q = (le-trans (p .0) (q .0), le-trans (p .1) (q .1), le-
 -- an accepted message leaves every meter within its limit
 pub accepted-within : (m : List ℕ) (lent : Lent) (b : Standing) → numberOf m lent b ≡ 0
     → overLimit (plus (b .sums) (addedBy (wholeOf m (governedIn m b) (b .gathering)) (governedIn m b))) ≡ false
-unfolding numberOf wholeNumber meterNumber
+unfolding wholeNumber meterNumber
 accepted-within m lent b e =
     refuse-zero _ 23 (lit≤ tt)
     (first-zero-right (contentNumber (wholeOf m (governedIn m b) (b .gathering)) (governedIn m b) lent) _
-    (first-zero-right (ownNumber m (lent .assembly) b) _ e))
+    (first-zero-right (ownNumber m (lent .assembly) b) _ (sym (numberOf-own m lent b) ∙ e)))
 
 -- the meters stay within their limit over one message
 pub sumsAfter-within : (m : List ℕ) (lent : Lent) (b : Standing) → overLimit (b .sums) ≡ false

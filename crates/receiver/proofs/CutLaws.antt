@@ -22,11 +22,11 @@ use Rattle.receiver.specs.Slices.{Slices, slices}
 use Rattle.receiver.specs.Chunk.{Chunk, chunk, isDrawing, pointsOf, litPointsOf}
 use Rattle.receiver.specs.Gathering.{Gathering, wholeOf}
 use Rattle.receiver.specs.Meters.{Sums, addedBy}
-use Rattle.receiver.specs.Checks.{headerNumber, closedNumber, governs, sequelNumber, matchNumber, roomNumber, contentNumber, ownNumber, wholeNumber, numberOf}
+use Rattle.receiver.specs.Checks.{headerNumber, closedNumber, governs, sequelNumber, matchNumber, roomNumber, contentNumber, wholeNumber, inOrder, ownNumber}
 use Rattle.receiver.specs.Effects.{replyOf, drawn, ofWhole, slicesAfter, sumsAfter, gatheringAfter}
 use Rattle.receiver.specs.LookBack.{Offer, Judged, lookback, channelsBy, governedBy, gatheringBy, workedOut, running, standingBy, judge}
 use Rattle.receiver.specs.declared.Reply.{Reply}
-use Rattle.receiver.proofs.CheckLaws.{OwnPassed, own-passed, accepted-own, routed-route, routed-holder, routed-closed, routed-governs, plus-zero}
+use Rattle.receiver.proofs.CheckLaws.{numberOf-whole, OwnPassed, own-passed, accepted-own, routed-route, routed-holder, routed-closed, routed-governs, plus-zero}
 use Rattle.receiver.proofs.WholeLaws.{own-of-taken}
 
 -- ---- the cut: messages on one channel, offered after the judged messages js
@@ -229,8 +229,7 @@ module _ (start : Sums) (js : List Judged) (f : Offer) (begins : Begins start js
     last-chunk = rw (ends .type, ends .marked, begins .mode, gathers-octets unclosed gathers)
 
     last-number : judge start ks last .number ≡ wholeNumber k v (last .lent) (running start js)
-    unfolding numberOf
-    last-number = rw (last-own, last-governed, last-chunk, gathers-sums gathers)
+    last-number = numberOf-whole l (last .lent) (standingBy start ks) last-own ∙ rw (last-governed, last-chunk, gathers-sums gathers)
 
     -- ---- the whole: its own checks find what those of the first fragment found, 24 to 26 pass it by, and its number is that of 20 to 23
 
@@ -238,7 +237,7 @@ module _ (start : Sums) (js : List Judged) (f : Offer) (begins : Begins start js
     whole-governed = routed-governs m (f .octets) (frame .channel) (frame .routing) (frame .routed) (channelsBy js)
 
     whole-own : ownNumber m (whole .lent .assembly) (standingBy start js) ≡ 0
-    unfolding ownNumber sequelNumber roomNumber
+    unfolding inOrder sequelNumber roomNumber
     whole-own =
         let g = channelsBy js in
         let route = routed-route m (f .octets) (frame .channel) (frame .routing) (frame .routed) ∙ first-passed .route in
@@ -252,8 +251,9 @@ module _ (start : Sums) (js : List Judged) (f : Offer) (begins : Begins start js
     whole-chunk = rw (frame .type, frame .section)
 
     whole-number : judge start js whole .number ≡ wholeNumber k v (last .lent) (running start js)
-    unfolding numberOf wholeNumber contentNumber
-    whole-number = rw (whole-own, whole-governed, whole-chunk, begins .mode, frame .rows)
+    unfolding wholeNumber contentNumber
+    whole-number =
+        numberOf-whole m (whole .lent) (standingBy start js) whole-own ∙ rw (whole-governed, whole-chunk, begins .mode, frame .rows)
 
     -- ---- number, configuration and chunk are the same, and all else follows
 

@@ -21,10 +21,10 @@ use Rattle.receiver.specs.Governing.{Configuration, routedBy, meant}
 use Rattle.receiver.specs.Chunk.{chunk, isFragment}
 use Rattle.receiver.specs.Gathering.{Gathering, wrap, endIn, wholeOf}
 use Rattle.receiver.specs.Meters.{Sums, overLimit}
-use Rattle.receiver.specs.Checks.{mostOctets, headerNumber, routeNumber, holderNumber, closedNumber, governs, sequelNumber, matchNumber, roomNumber, ownNumber, numberOf}
+use Rattle.receiver.specs.Checks.{mostOctets, headerNumber, routeNumber, holderNumber, closedNumber, governs, sequelNumber, matchNumber, roomNumber, inOrder, ownNumber}
 use Rattle.receiver.specs.Effects.{ofWhole, gatheringAfter}
 use Rattle.receiver.specs.LookBack.{Offer, Judged, channelsBy, governedBy, gatheringBy, running, standingBy, judge, judged}
-use Rattle.receiver.proofs.CheckLaws.{OwnPassed, own-passed, data-length, routed-governs, routed-route, routed-holder, routed-closed}
+use Rattle.receiver.proofs.CheckLaws.{numberOf-whole, OwnPassed, own-passed, data-length, routed-governs, routed-route, routed-holder, routed-closed}
 use Rattle.receiver.proofs.WholeLaws.{own-of-taken, sequel-routes, match-none, whole-number, fragment-passes}
 use Rattle.receiver.proofs.CutLaws.{Begins, Gathers, begun, more, Ends, SameFrame, SameAsWhole, gathers-sums, gathers-governed, cut-as-whole}
 
@@ -147,7 +147,7 @@ module _ (start : Sums) (js : List Judged) (whole f : Offer) (frame : Frame star
   -- ---- the first fragment
 
   first-own : (rest : List ℕ) → dataOf m ≡ dataOf (f .octets) ++ rest → ownNumber (f .octets) (f .lent .assembly) (standingBy start js) ≡ 0
-  unfolding ownNumber sequelNumber
+  unfolding inOrder sequelNumber
   first-own rest section =
       let g = channelsBy js in
       let route = routed-route (f .octets) m (head .channel) (head .routing) (head .routed) ∙ whole-passed .route in
@@ -159,13 +159,14 @@ module _ (start : Sums) (js : List Judged) (whole f : Offer) (frame : Frame star
       rw (head .header, route, holder, shut, room, head .type, match)
 
   pub first-begins : (rest : List ℕ) → dataOf m ≡ dataOf (f .octets) ++ rest → Begins start js f
-  unfolding numberOf wholeOf
+  unfolding wholeOf
   first-begins rest section =
       record {
         type = head .type;
         mode = first-mode;
         accepted =
-            rw (first-own rest section, head .type)
+            numberOf-whole (f .octets) (f .lent) (standingBy start js) (first-own rest section)
+            ∙ rw (head .type)
             (fragment-passes (chunk 3 (dataOf (f .octets))) v (f .lent) (running start js) (rw first-mode) (frame .within));
       }
 
@@ -202,7 +203,7 @@ module _ (start : Sums) (js : List Judged) (whole f : Offer) (frame : Frame star
         rw (sequel .type, first-mode, eq-eqb (channelOf (o .octets)) (channelOf (f .octets)) (sequel .channel), eq-eqb (timestampOf (o .octets)) ((timestampOf (f .octets) + k % wrap) % wrap) (sequel .timestamp ∙ turn))
 
     sequel-own : (rest : List ℕ) → dataOf m ≡ part ++ rest → ownNumber (o .octets) (o .lent .assembly) (standingBy start ks) ≡ 0
-    unfolding ownNumber routeNumber holderNumber closedNumber
+    unfolding inOrder routeNumber holderNumber closedNumber
     sequel-own rest section =
         let is : isSequel (o .octets) ≡ true = rw (sequel .type) in
         let end : endIn (o .octets) (gathered f k octets) ≡ length part = rw (sequel .type) (sym (length-append octets (dataOf (o .octets)))) in
@@ -211,9 +212,10 @@ module _ (start : Sums) (js : List Judged) (whole f : Offer) (frame : Frame star
 
     -- not the last, it is accepted
     pub sequel-more : (rest : List ℕ) → dataOf m ≡ part ++ rest → cclf (o .octets) ≡ false → judge start ks o .number ≡ 0
-    unfolding numberOf wholeOf
+    unfolding wholeOf
     sequel-more rest section unmarked =
-        rw (sequel-own rest section, sequel-governed, sequel .type, unmarked, gathers-sums start js f begins gathers)
+        numberOf-whole (o .octets) (o .lent) (standingBy start ks) (sequel-own rest section)
+        ∙ rw (sequel-governed, sequel .type, unmarked, gathers-sums start js f begins gathers)
         (fragment-passes (chunk 0xC0 (dataOf (o .octets))) v (o .lent) (running start js) (rw first-mode) (frame .within))
 
     sequel-gathered : (rest : List ℕ) → dataOf m ≡ part ++ rest → cclf (o .octets) ≡ false
@@ -225,14 +227,13 @@ module _ (start : Sums) (js : List Judged) (whole f : Offer) (frame : Frame star
 
     -- the last is taken
     pub last-ends : dataOf m ≡ part → cclf (o .octets) ≡ true → Ends start ks f o
-    unfolding numberOf
     last-ends section marked =
         record {
           type = sequel .type;
           marked = marked;
           channel = sequel .channel;
           taken =
-              rw (sequel-own [] (section ∙ sym (append-nil part)))
+              rw (numberOf-whole (o .octets) (o .lent) (standingBy start ks) (sequel-own [] (section ∙ sym (append-nil part))))
               (whole-number (wholeOf (o .octets) (governedBy ks (o .octets)) (gatheringBy ks)) (governedBy ks (o .octets)) (o .lent) (running start ks));
         }
 

@@ -13,12 +13,12 @@ use Rattle.receiver.specs.Modes.{exclusiveMode, channelCount}
 use Rattle.receiver.specs.Governing.{Configuration}
 use Rattle.receiver.specs.Chunk.{chunkOf}
 use Rattle.receiver.specs.Meters.{overLimit}
-use Rattle.receiver.specs.Checks.{headerNumber, routeNumber, holderNumber, closedNumber, governs, sequelNumber, matchNumber, roomNumber, ownNumber}
+use Rattle.receiver.specs.Checks.{headerNumber, routeNumber, holderNumber, closedNumber, governs, sequelNumber, matchNumber, roomNumber, inOrder}
 use Rattle.receiver.specs.Record.{openState, configAt, areaAt, channelsOf, configurationOf, sumsOf, gatheringOf, consistentUpTo, sized, consistent}
 use Rattle.receiver.specs.Steps.{RoutedTo, heldStates, governingNumber, Governed, ownNumberOf}
 use Rattle.receiver.specs.declared.Receiver.{Receiver}
 use Rattle.receiver.specs.declared.route.Found.{Found}
-use Rattle.receiver.proofs.CheckLaws.{channel-below}
+use Rattle.receiver.proofs.CheckLaws.{first-assoc, channel-below}
 use Rattle.receiver.proofs.RecordLaws.{channelsOf-below, configuration-open, heldElsewhere-states}
 use Rattle.receiver.proofs.SettleLaws.{consistent-each}
 
@@ -78,17 +78,9 @@ module _ (r : Receiver) (m : List ℕ) where
 -- ---- checks 15 to 19 and 24 to 26, by what governs
 
 module _ (r : Receiver) (m : List ℕ) (f : Found) (area : List ℕ) (governed : Governed r m f area) where
-  -- checks in a row, put in brackets the other way
-  first-assoc : (a b c : ℕ) → first a (first b c) ≡ first (first a b) c
-  first-assoc a b c = go (eqb a 0) refl
-    where
-      go : (t : Bool) → eqb a 0 ≡ t → cond t (first b c) a ≡ first (cond t b a) c
-      go true e = refl
-      go false e = rw e
-
   -- a refusal by 1 to 14 is the message's own number
   pub number-refused : (n : ℕ) (a : List ℕ) → not (eqb (f .number) 0) ≡ true → f .number ≡ ownNumberOf r m n a
-  unfolding ownNumber
+  unfolding inOrder
   number-refused n a e = go (consistent r) refl
     where
       go : (b : Bool) → consistent r ≡ b → f .number ≡ ownNumberOf r m n a
@@ -117,12 +109,11 @@ module _ (r : Receiver) (m : List ℕ) (f : Found) (area : List ℕ) (governed :
     -- else the later checks give it
     pub number-later : (n : ℕ) (a : List ℕ)
         → ownNumberOf r m n a
-        ≡ first (holderNumber m (channelsOf r))
-        (first (closedNumber m (channelsOf r))
+        ≡ first (closedNumber m (channelsOf r))
         (first (sequelNumber m v (gatheringOf r a))
         (first (matchNumber (chunkOf m) v)
-        (roomNumber m v (gatheringOf r a) n))))
-    unfolding ownNumber
+        (first (holderNumber m (channelsOf r)) (first (roomNumber m v (gatheringOf r a) n) 0))))
+    unfolding inOrder
     number-later n a =
         rw
         (governed-good, governed-header-passed, first-zero-right (headerNumber m) (routeNumber m) both, ← governed .config passed)

@@ -23,9 +23,10 @@ use Rattle.receiver.specs.Slices.{Lent}
 use Rattle.receiver.specs.Chunk.{Chunk, chunkOf, fragmentType, knownType, isDrawing, isDimming, isFragment, body}
 use Rattle.receiver.specs.Gathering.{Gathering, gathersOn, nextTimestamp, endIn, wholeOf}
 use Rattle.receiver.specs.Meters.{Sums, plus, overLimit, addedBy}
-use Rattle.receiver.specs.Checks.{mostOctets, wrongLength, passesEnd, typeFits, wrongData, mismatched, wrongCount, headerNumber, tagsNumber, routingNumber, routeNumber, heldElsewhere, holderNumber, closedNumber, sequelNumber, matchNumber, roomNumber, drawNumber, dimNumber, contentNumber, meterNumber, Standing, governedIn, ownNumber, wholeNumber, numberOf}
+use Rattle.receiver.specs.Checks.{mostOctets, wrongLength, passesEnd, typeFits, wrongData, mismatched, wrongCount, headerNumber, tagsNumber, routingNumber, routeNumber, heldElsewhere, holderNumber, closedNumber, sequelNumber, matchNumber, roomNumber, drawNumber, dimNumber, contentNumber, meterNumber, wholeNumber, Standing, governedIn, inOrder, numberOf, ownNumber}
 use Rattle.receiver.specs.Effects.{ofWhole, takes}
 use Rattle.receiver.specs.Steps.{taken}
+use Rattle.receiver.proofs.CheckLaws.{numberOf-own}
 use Rattle.receiver.proofs.MeterLaws.{meter-idle}
 
 -- ---- checks in a row that give no number of the whole
@@ -160,7 +161,7 @@ module _ (m : List ℕ) where
       go false false false false = refl
 
   pub own-not-whole : (n : ℕ) (b : Standing) → ofWhole (ownNumber m n b) ≡ false
-  unfolding ownNumber holderNumber closedNumber roomNumber
+  unfolding inOrder holderNumber closedNumber roomNumber
   own-not-whole n b =
       let v = governedIn m b in
       let held = routes m && (exclusiveMode (modeOf m) && heldElsewhere (b .channels) (modeOf m) (channelOf m) channelCount) in
@@ -168,15 +169,16 @@ module _ (m : List ℕ) where
       let short = isFragment (typeOf m) v && (ltb n (endIn m (b .gathering)) || ltb mostOctets (endIn m (b .gathering))) in
       ofWhole-first (headerNumber m) _ header-not-whole
       (ofWhole-first (routeNumber m) _ route-not-whole
-      (ofWhole-first (refuse held 15) _ (ofWhole-refuse held 15 refl)
       (ofWhole-first (refuse shut 16) _ (ofWhole-refuse shut 16 refl)
       (ofWhole-first (sequelNumber m v (b .gathering)) _ (sequel-not-whole v (b .gathering))
-      (ofWhole-first (matchNumber (chunkOf m) v) _ (match-not-whole v) (ofWhole-refuse short 26 refl))))))
+      (ofWhole-first (matchNumber (chunkOf m) v) _ (match-not-whole v)
+      (ofWhole-first (refuse held 15) _ (ofWhole-refuse held 15 refl)
+      (ofWhole-first (refuse short 26) 0 (ofWhole-refuse short 26 refl) refl))))))
 
   -- so a message that is accepted, or refused by a check on the whole, passed them
   pub own-of-taken : (lent : Lent) (b : Standing) → (eqb (numberOf m lent b) 0 || ofWhole (numberOf m lent b)) ≡ true → ownNumber m (lent .assembly) b ≡ 0
-  unfolding numberOf
-  own-of-taken lent b = go (ownNumber m (lent .assembly) b) _ (own-not-whole (lent .assembly) b)
+  own-of-taken lent b taken =
+      go (ownNumber m (lent .assembly) b) _ (own-not-whole (lent .assembly) b) (rw (numberOf-own m lent b) at taken)
     where
       go : (n x : ℕ) → ofWhole n ≡ false → (eqb (first n x) 0 || ofWhole (first n x)) ≡ true → n ≡ 0
       go zero x outside taken = refl

@@ -20,7 +20,7 @@ use Rattle.receiver.specs.Slices.{slices, lent}
 use Rattle.receiver.specs.Chunk.{pointsOf, litPointsOf, levelsOf}
 use Rattle.receiver.specs.Gathering.{noGathering, wholeOf}
 use Rattle.receiver.specs.Meters.{Sums, sums, addedBy}
-use Rattle.receiver.specs.Checks.{headerNumber, tagsNumber, routingNumber, routeNumber, heldElsewhere, holderNumber, closedNumber, governs, sequelNumber, matchNumber, roomNumber, drawNumber, dimNumber, contentNumber, meterNumber, Standing, ownNumber, wholeNumber, numberOf}
+use Rattle.receiver.specs.Checks.{headerNumber, tagsNumber, routingNumber, routeNumber, heldElsewhere, holderNumber, closedNumber, governs, sequelNumber, matchNumber, roomNumber, drawNumber, dimNumber, contentNumber, meterNumber, wholeNumber, Standing, inOrder, numberOf}
 use Rattle.receiver.specs.Effects.{replyOf, drawn, assemblyAfter, slicesAfter, sumsAfter, gatheringAfter}
 use Rattle.receiver.specs.LookBack.{offer, lookback, gatheringBy, workedOut, judged, historySums}
 
@@ -157,5 +157,5 @@ table =
     ∷ []
 
 pub bench : Agrees table
-unfolding routingMessage firstNumber zerosChunk sumsList bit messageA messageStart tagsB tagsC tagsD tagsE tagsF tagsF′ tagsG sampleRow slotIn litIs z rowsA replyTo table placeOf colourOf intensityOf waveOf slotOf slotsOf litAmong rowsOf litIn definedGroup isSingle reservedSpace knownTag slotFor misplaced repeated tagNumber roleFor sampleWith allowedAfter read step walked incomplete endNumber dictionaryNumber dictionarySample overlapsAny badDimmerTag clashingTag dimmerTagNumber mappingWith readDimmer stepDimmer dimmed dimmerNumber dimmerMapping countSum levelsFit tagsOf dataOf meant headerNumber tagsNumber routingNumber routeNumber heldElsewhere holderNumber closedNumber governs pointsOf litPointsOf levelsOf wholeOf sequelNumber matchNumber roomNumber drawNumber dimNumber contentNumber addedBy meterNumber ownNumber wholeNumber numberOf replyOf drawn assemblyAfter slicesAfter sumsAfter gatheringAfter lookback gatheringBy workedOut judged
+unfolding routingMessage firstNumber zerosChunk sumsList bit messageA messageStart tagsB tagsC tagsD tagsE tagsF tagsF′ tagsG sampleRow slotIn litIs z rowsA replyTo table placeOf colourOf intensityOf waveOf slotOf slotsOf litAmong rowsOf litIn definedGroup isSingle reservedSpace knownTag slotFor misplaced repeated tagNumber roleFor sampleWith allowedAfter read step walked incomplete endNumber dictionaryNumber dictionarySample overlapsAny badDimmerTag clashingTag dimmerTagNumber mappingWith readDimmer stepDimmer dimmed dimmerNumber dimmerMapping countSum levelsFit tagsOf dataOf meant headerNumber tagsNumber routingNumber routeNumber heldElsewhere holderNumber closedNumber governs pointsOf litPointsOf levelsOf wholeOf sequelNumber matchNumber roomNumber drawNumber dimNumber contentNumber addedBy meterNumber wholeNumber inOrder numberOf replyOf drawn assemblyAfter slicesAfter sumsAfter gatheringAfter lookback gatheringBy workedOut judged
 bench = refl

@@ -1,9 +1,9 @@
--- Checks 2 to 26 in their order (document 01, "Checks, in order"; document 02, C-12). What stands before the message is given: for each
+-- Checks 2 to 26 in their order (document 01, "Checks, in order"; document 02, C-12 and C-13). What stands before the message is given: for each
 -- channel what governs it, what is gathered of a frame, and the meters by their sums so far; nothing here knows where these come from. The
 -- message contract reads them off the receiver and the slice lent, the look-back rule finds them in the list.
 use Prim.Native.Nat.{ℕ, zero, suc, _*_, _%_}
 use mathlib.Core.Bool.{Bool, false, cond, not, _&&_, _||_}
-use mathlib.Core.List.{List}
+use mathlib.Core.List.{List, [], _∷_}
 use lib.ListN.{length}
 use lib.Dec.{ltb, eqb}
 use Rattle.tags.specs.Limits.{rowSize, placeCount}
@@ -153,6 +153,11 @@ contentNumber k v lent =
 unfoldable pub meterNumber : Chunk → Configuration → Sums → ℕ
 meterNumber k v sums = refuse (overLimit (plus sums (addedBy k v))) 23
 
+-- ---- checks 20 to 23 on the whole, by what governs it
+
+unfoldable pub wholeNumber : Chunk → Configuration → Lent → Sums → ℕ
+wholeNumber k v lent sums = first (contentNumber k v lent) (meterNumber k v sums)
+
 -- ---- the order of all of them, written here alone
 
 -- what stands before a message
@@ -165,22 +170,40 @@ pub record Standing : Type 0 where
 abbrev pub governedIn : List ℕ → Standing → Configuration
 governedIn m b = governs m (b .channels)
 
--- the checks on the message itself; with C-12, 24 and 25 come after 16, and 26 after 19
-unfoldable pub ownNumber : List ℕ → ℕ → Standing → ℕ
-ownNumber m assembly b =
-    first (headerNumber m)
-    (first (routeNumber m)
-    (first (holderNumber m (b .channels))
-    (first (closedNumber m (b .channels))
-    (first (sequelNumber m (governedIn m b) (b .gathering))
-    (first (matchNumber (chunkOf m) (governedIn m b))
-    (roomNumber m (governedIn m b) (b .gathering) assembly))))))
+-- the first of several checks that refuses, or what comes behind them
+abbrev pub firstOf : List ℕ → ℕ → ℕ
+firstOf [] behind = behind
+firstOf (n ∷ ns) behind = first n (firstOf ns behind)
 
--- 20 to 23, on the whole
-unfoldable pub wholeNumber : Chunk → Configuration → Lent → Sums → ℕ
-wholeNumber k v lent sums = first (contentNumber k v lent) (meterNumber k v sums)
+-- The first check that refuses gives the number. Check 1, on the record, comes before them all (Contract.antt: messageNumber). Document 01
+-- has 2 to 23 in the order of their numbers; C-12 puts 24 and 25 after 16, and 26 after 19; C-13: "For messages with Routing, 17, 18 and 19
+-- are now tried before 15", which applies to no other message.
+unfoldable pub inOrder : List ℕ → ℕ → Standing → ℕ → ℕ
+inOrder m assembly b whole =
+    firstOf
+    -- 2, 3, 4, 5
+    (headerNumber m
+    -- 6, 7; at each tag 8 to 11, or 13 and 14; after the last 10 and 12
+    ∷ routeNumber m
+    -- 16
+    ∷ closedNumber m (b .channels)
+    -- 24, 25
+    ∷ sequelNumber m (governedIn m b) (b .gathering)
+    -- 17, 18, 19
+    ∷ matchNumber (chunkOf m) (governedIn m b)
+    -- 15
+    ∷ holderNumber m (b .channels)
+    -- 26
+    ∷ roomNumber m (governedIn m b) (b .gathering) assembly
+    ∷ [])
+    -- 20, 21, 22, 23
+    whole
 
 -- the number of message m with the slices lent: 0 where it is accepted
 unfoldable pub numberOf : List ℕ → Lent → Standing → ℕ
 numberOf m lent b =
-    first (ownNumber m (lent .assembly) b) (wholeNumber (wholeOf m (governedIn m b) (b .gathering)) (governedIn m b) lent (b .sums))
+    inOrder m (lent .assembly) b (wholeNumber (wholeOf m (governedIn m b) (b .gathering)) (governedIn m b) lent (b .sums))
+
+-- its number by the checks on the message itself, before the whole is tried
+abbrev pub ownNumber : List ℕ → ℕ → Standing → ℕ
+ownNumber m assembly b = inOrder m assembly b 0

@@ -19,11 +19,11 @@ use Rattle.receiver.specs.Slices.{lent}
 use Rattle.receiver.specs.Chunk.{pointsOf, litPointsOf, levelsOf}
 use Rattle.receiver.specs.Gathering.{wholeOf}
 use Rattle.receiver.specs.Meters.{sums, addedBy}
-use Rattle.receiver.specs.Checks.{headerNumber, tagsNumber, routingNumber, routeNumber, heldElsewhere, holderNumber, closedNumber, governs, sequelNumber, matchNumber, roomNumber, drawNumber, dimNumber, contentNumber, meterNumber, Standing, ownNumber, wholeNumber, numberOf}
+use Rattle.receiver.specs.Checks.{headerNumber, tagsNumber, routingNumber, routeNumber, heldElsewhere, holderNumber, closedNumber, governs, sequelNumber, matchNumber, roomNumber, drawNumber, dimNumber, contentNumber, meterNumber, wholeNumber, Standing, inOrder, numberOf}
 use Rattle.receiver.specs.Effects.{replyOf, sumsAfter, gatheringAfter}
 use Rattle.receiver.specs.LookBack.{offer, lookback, gatheringBy, workedOut, judged, repliesBy, historyNumbers}
 use Rattle.receiver.specs.Section.{sectionNumber, sectionStart, dataSection}
-use Rattle.receiver.specs.PinMessages.{numberAt, numberFor, offered, numbersOf, numbersWith, numbersLent, gatheredAfter, eachOf, message, routing, plain, unrouted, fragment, sequel, lastSequel, drawingTags, bringing, twoColoured, frames, voids, dark, alive, close, undivided, opening, middle, ending}
+use Rattle.receiver.specs.PinMessages.{numberAt, numberFor, offered, numbersOf, numbersWith, numbersLent, gatheredAfter, eachOf, message, routing, plain, unrouted, fragment, sequel, lastSequel, drawingTags, bringing, twoColoured, frames, waves, voids, dark, alive, close, undivided, opening, middle, ending}
 
 -- ---- messages
 
@@ -150,7 +150,7 @@ fragmentTable =
     ∷ []
 
 pub fragment-pins : Agrees fragmentTable
-unfolding header behind behindLent counted fragmentTable placeOf colourOf litAmong rowsOf litIn definedGroup isSingle reservedSpace knownTag slotFor misplaced repeated tagNumber roleFor sampleWith allowedAfter read step walked incomplete endNumber dictionaryNumber dictionarySample overlapsAny badDimmerTag clashingTag dimmerTagNumber mappingWith readDimmer stepDimmer dimmed dimmerNumber dimmerMapping countSum levelsFit mappedSum levelsWritten tagsOf dataOf meant headerNumber tagsNumber routingNumber routeNumber heldElsewhere holderNumber closedNumber governs pointsOf litPointsOf levelsOf wholeOf sequelNumber matchNumber roomNumber drawNumber dimNumber contentNumber addedBy meterNumber ownNumber wholeNumber numberOf replyOf sumsAfter gatheringAfter lookback gatheringBy workedOut judged repliesBy sectionNumber sectionStart dataSection
+unfolding header behind behindLent counted fragmentTable placeOf colourOf litAmong rowsOf litIn definedGroup isSingle reservedSpace knownTag slotFor misplaced repeated tagNumber roleFor sampleWith allowedAfter read step walked incomplete endNumber dictionaryNumber dictionarySample overlapsAny badDimmerTag clashingTag dimmerTagNumber mappingWith readDimmer stepDimmer dimmed dimmerNumber dimmerMapping countSum levelsFit mappedSum levelsWritten tagsOf dataOf meant headerNumber tagsNumber routingNumber routeNumber heldElsewhere holderNumber closedNumber governs pointsOf litPointsOf levelsOf wholeOf sequelNumber matchNumber roomNumber drawNumber dimNumber contentNumber addedBy meterNumber wholeNumber inOrder numberOf replyOf sumsAfter gatheringAfter lookback gatheringBy workedOut judged repliesBy sectionNumber sectionStart dataSection
 fragment-pins = refl
 
 -- what is gathered, what drops it, and what does not
@@ -172,6 +172,10 @@ gatheringTable =
     ∷ row (eachOf closings (λ m. behind (m ∷ middle 0 ∷ []))) (0 ∷ 16 ∷ 0 ∷ 16 ∷ [])
     ∷ row (eachOf mismatches (λ m. behind (m ∷ middle 0 ∷ []))) (19 ∷ 16 ∷ 19 ∷ 16 ∷ 19 ∷ 16 ∷ [])
     ∷ row (eachOf (routings ++ closings ++ mismatches) (λ m. gatheredAfter (opening 0 ∷ m ∷ []))) (replicate 45 0)
+    -- C-13: so does a 19 in place of 15, and 17, 18 and 15 do not
+    ∷ row (behind (waves 1 ∷ routing 0 1 1 0 1 drawingTags (dark 0x10) ∷ middle 0 ∷ [])) (0 ∷ 19 ∷ 16 ∷ [])
+    ∷ row (gatheredAfter (opening 0 ∷ waves 1 ∷ routing 0 1 1 0 1 drawingTags (dark 0x10) ∷ [])) (replicate 5 0)
+    ∷ row (behind (waves 1 ∷ routing 0 3 1 0 1 drawingTags (dark 0x10) ∷ routing 0 1 1 0 1 drawingTags [] ∷ waves 0 ∷ middle 0 ∷ [])) (0 ∷ 17 ∷ 18 ∷ 15 ∷ 0 ∷ [])
     -- not on another channel: a routing, a close, and 19 of a frame and of a first fragment
     ∷ row (behind (frames 1 ∷ close 1 ∷ middle 0 ∷ [])) (0 ∷ 0 ∷ 0 ∷ [])
     ∷ row (behind (routing 1 2 1 0 2 drawingTags (dark 0) ∷ plain 1 2 (dark 0x10) ∷ middle 0 ∷ [])) (0 ∷ 19 ∷ 0 ∷ [])
@@ -204,5 +208,5 @@ gatheringTable =
     ∷ []
 
 pub gathering-pins : Agrees gatheringTable
-unfolding header routedClosing closing routings closings mismatches behind behindLent gatheringTable placeOf colourOf litAmong rowsOf litIn definedGroup isSingle reservedSpace knownTag slotFor misplaced repeated tagNumber roleFor sampleWith allowedAfter read step walked incomplete endNumber dictionaryNumber dictionarySample overlapsAny badDimmerTag clashingTag dimmerTagNumber mappingWith readDimmer stepDimmer dimmed dimmerNumber dimmerMapping countSum levelsFit mappedSum levelsWritten tagsOf dataOf meant headerNumber tagsNumber routingNumber routeNumber heldElsewhere holderNumber closedNumber governs pointsOf litPointsOf levelsOf wholeOf sequelNumber matchNumber roomNumber drawNumber dimNumber contentNumber addedBy meterNumber ownNumber wholeNumber numberOf replyOf sumsAfter gatheringAfter lookback gatheringBy workedOut judged repliesBy
+unfolding header routedClosing closing routings closings mismatches behind behindLent gatheringTable placeOf colourOf litAmong rowsOf litIn definedGroup isSingle reservedSpace knownTag slotFor misplaced repeated tagNumber roleFor sampleWith allowedAfter read step walked incomplete endNumber dictionaryNumber dictionarySample overlapsAny badDimmerTag clashingTag dimmerTagNumber mappingWith readDimmer stepDimmer dimmed dimmerNumber dimmerMapping countSum levelsFit mappedSum levelsWritten tagsOf dataOf meant headerNumber tagsNumber routingNumber routeNumber heldElsewhere holderNumber closedNumber governs pointsOf litPointsOf levelsOf wholeOf sequelNumber matchNumber roomNumber drawNumber dimNumber contentNumber addedBy meterNumber wholeNumber inOrder numberOf replyOf sumsAfter gatheringAfter lookback gatheringBy workedOut judged repliesBy
 gathering-pins = refl

@@ -125,6 +125,10 @@ drawingTags = 0x42 ∷ 0x00 ∷ 0x42 ∷ 0x10 ∷ 0x52 ∷ 0x7E ∷ 0x00 ∷ 0x0
 abbrev pub tagsFor : ℕ → List ℕ
 tagsFor mode = cond (eqb mode 1) drawingTags (cond (eqb mode 2) drawingTags [])
 
+-- the type of a wave, a frame or dimmer levels in a mode
+abbrev pub typeFor : ℕ → ℕ
+typeFor mode = cond (eqb mode 1) 1 (cond (eqb mode 2) 2 0x18)
+
 -- a message that routes channel 0 and brings a chunk of this type: n octets of 0, the header's among them
 abbrev pub bringing : ℕ → ℕ → ℕ → List ℕ
 bringing mode t n = routing 0 t 1 0 mode (tagsFor mode) (replicate n 0)

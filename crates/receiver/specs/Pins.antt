@@ -1,5 +1,5 @@
 -- The numbers of document 01's "One message", "Chunks", "Meters", "Checks, in order" and "Calls and layers" as tables: what the definitions
--- give, and what the paper says. A definition and its code that were changed alike are refused here.
+-- give, and what the paper says. A definition and its code that were changed alike are refused here, where a row tells them apart.
 use mathlib.Core.Path.{_≡_, refl}
 use Prim.Native.Nat.{ℕ, _+_, _*_}
 use mathlib.Core.List.{List, [], _∷_, _++_, map}
@@ -18,7 +18,7 @@ use Rattle.receiver.specs.Slices.{slices}
 use Rattle.receiver.specs.Chunk.{pointsOf, litPointsOf, levelsOf}
 use Rattle.receiver.specs.Gathering.{wholeOf}
 use Rattle.receiver.specs.Meters.{sums, addedBy}
-use Rattle.receiver.specs.Checks.{headerNumber, tagsNumber, routingNumber, routeNumber, heldElsewhere, holderNumber, closedNumber, governs, sequelNumber, matchNumber, roomNumber, drawNumber, dimNumber, contentNumber, meterNumber, ownNumber, wholeNumber, numberOf}
+use Rattle.receiver.specs.Checks.{headerNumber, tagsNumber, routingNumber, routeNumber, heldElsewhere, holderNumber, closedNumber, governs, sequelNumber, matchNumber, roomNumber, drawNumber, dimNumber, contentNumber, meterNumber, wholeNumber, inOrder, numberOf}
 use Rattle.receiver.specs.Effects.{replyOf, sumsAfter, gatheringAfter}
 use Rattle.receiver.specs.LookBack.{lookback, gatheringBy, workedOut, judged, repliesBy}
 use Rattle.receiver.specs.Section.{sectionNumber, sectionStart, dataSection}
@@ -27,7 +27,7 @@ use Rattle.receiver.specs.Record.{areaPlace, recordSize, configurationOf
 use Rattle.receiver.specs.Contract.{startNumber, messageNumber}
 use Rattle.tags.specs.Kept.{sizesFit}
 use Rattle.receiver.specs.Steps.{fresh, freshChannels}
-use Rattle.receiver.specs.PinMessages.{numberAt, numberFor, numbersOf, metersAfter, repliesTo, octets, message, routing, plain, drawingTags, tagsFor, bringing, twoColoured, firstLit, flagged, bit}
+use Rattle.receiver.specs.PinMessages.{numberAt, numberFor, numbersOf, metersAfter, repliesTo, octets, message, routing, plain, drawingTags, tagsFor, typeFor, bringing, twoColoured, firstLit, flagged, bit}
 
 -- ---- the tables
 
@@ -72,7 +72,7 @@ messageTable =
     ∷ []
 
 pub message-pins : Agrees messageTable
-unfolding messageTable placeOf colourOf litAmong rowsOf litIn definedGroup isSingle reservedSpace knownTag slotFor misplaced repeated tagNumber roleFor sampleWith allowedAfter read step walked incomplete endNumber dictionaryNumber dictionarySample overlapsAny badDimmerTag clashingTag dimmerTagNumber mappingWith readDimmer stepDimmer dimmed dimmerNumber dimmerMapping countSum levelsFit tagsOf dataOf meant headerNumber tagsNumber routingNumber routeNumber heldElsewhere holderNumber closedNumber governs pointsOf litPointsOf levelsOf wholeOf sequelNumber matchNumber roomNumber drawNumber dimNumber contentNumber addedBy meterNumber ownNumber wholeNumber numberOf sectionNumber sectionStart dataSection
+unfolding messageTable placeOf colourOf litAmong rowsOf litIn definedGroup isSingle reservedSpace knownTag slotFor misplaced repeated tagNumber roleFor sampleWith allowedAfter read step walked incomplete endNumber dictionaryNumber dictionarySample overlapsAny badDimmerTag clashingTag dimmerTagNumber mappingWith readDimmer stepDimmer dimmed dimmerNumber dimmerMapping countSum levelsFit tagsOf dataOf meant headerNumber tagsNumber routingNumber routeNumber heldElsewhere holderNumber closedNumber governs pointsOf litPointsOf levelsOf wholeOf sequelNumber matchNumber roomNumber drawNumber dimNumber contentNumber addedBy meterNumber wholeNumber inOrder numberOf sectionNumber sectionStart dataSection
 message-pins = refl
 
 pub chunkTable : List (Row ℕ)
@@ -95,12 +95,9 @@ chunkTable =
     ∷ row (refusedBy (18 ∷ []) (λ n. numberFor (bringing 2 2 n)) (span 0 8)) (0 ∷ 1 ∷ 2 ∷ 3 ∷ [])
     ∷ row (refusedBy (18 ∷ []) (λ n. numberFor (bringing 6 0x18 n)) (span 0 8)) (0 ∷ 1 ∷ 2 ∷ 3 ∷ [])
     -- 19. "SCM differs from SDM.": bits 2-3 of the flags octet, "the rest ignored"
-    ∷ row (each (0x01 ∷ 0x11 ∷ 0x21 ∷ 0x31 ∷ []) (λ cfl.
-    notRefusedBy (19 ∷ []) (λ flags. numberFor (routing 0 2 cfl 0 2 drawingTags (flags ∷ 0 ∷ 0 ∷ 0 ∷ []))) (0x00 ∷ 0x10 ∷ 0x20 ∷ 0x30 ∷ 0xCF ∷ [])))
-    (0x00 ∷ 0xCF ∷ 0x10 ∷ 0x20 ∷ 0x30 ∷ [])
-    ∷ row (each (0x01 ∷ 0x11 ∷ 0x21 ∷ 0x31 ∷ []) (λ cfl.
-    notRefusedBy (19 ∷ []) (λ flags. numberFor (routing 0 0x18 cfl 0 6 [] (flags ∷ 9 ∷ 9 ∷ 9 ∷ []))) (0x00 ∷ 0x10 ∷ 0x20 ∷ 0x30 ∷ 0xCF ∷ [])))
-    (0x00 ∷ 0xCF ∷ 0x10 ∷ 0x20 ∷ 0x30 ∷ [])
+    ∷ row (each (1 ∷ 2 ∷ 4 ∷ 6 ∷ []) (λ mode. each (0x01 ∷ 0x11 ∷ 0x21 ∷ 0x31 ∷ []) (λ cfl.
+    notRefusedBy (19 ∷ []) (λ flags. numberFor (routing 0 (typeFor mode) cfl 0 mode (tagsFor mode) (flags ∷ 9 ∷ 9 ∷ 9 ∷ []))) (0x00 ∷ 0x10 ∷ 0x20 ∷ 0x30 ∷ 0xCF ∷ []))))
+    (each (span 0 4) (λ k. 0x00 ∷ 0xCF ∷ 0x10 ∷ 0x20 ∷ 0x30 ∷ []))
     -- 20. "Samples are not whole, a wave has under 20, or a frame has exactly 1."
     ∷ row (refusedBy (20 ∷ []) (λ n. numberFor (bringing 1 1 (4 + 3 * n))) (span 0 30)) (span 0 20)
     ∷ row (refusedBy (20 ∷ []) (λ n. numberFor (bringing 2 2 (4 + 3 * n))) (span 0 30)) (1 ∷ [])
@@ -119,7 +116,7 @@ chunkTable =
     ∷ []
 
 pub chunk-pins : Agrees chunkTable
-unfolding chunkTable placeOf colourOf litAmong rowsOf litIn definedGroup isSingle reservedSpace knownTag slotFor misplaced repeated tagNumber roleFor sampleWith allowedAfter read step walked incomplete endNumber dictionaryNumber dictionarySample overlapsAny badDimmerTag clashingTag dimmerTagNumber mappingWith readDimmer stepDimmer dimmed dimmerNumber dimmerMapping countSum levelsFit mappedSum levelsWritten tagsOf dataOf meant headerNumber tagsNumber routingNumber routeNumber heldElsewhere holderNumber closedNumber governs pointsOf litPointsOf levelsOf wholeOf sequelNumber matchNumber roomNumber drawNumber dimNumber contentNumber addedBy meterNumber ownNumber wholeNumber numberOf replyOf sumsAfter gatheringAfter lookback gatheringBy workedOut judged repliesBy
+unfolding chunkTable placeOf colourOf litAmong rowsOf litIn definedGroup isSingle reservedSpace knownTag slotFor misplaced repeated tagNumber roleFor sampleWith allowedAfter read step walked incomplete endNumber dictionaryNumber dictionarySample overlapsAny badDimmerTag clashingTag dimmerTagNumber mappingWith readDimmer stepDimmer dimmed dimmerNumber dimmerMapping countSum levelsFit mappedSum levelsWritten tagsOf dataOf meant headerNumber tagsNumber routingNumber routeNumber heldElsewhere holderNumber closedNumber governs pointsOf litPointsOf levelsOf wholeOf sequelNumber matchNumber roomNumber drawNumber dimNumber contentNumber addedBy meterNumber wholeNumber inOrder numberOf replyOf sumsAfter gatheringAfter lookback gatheringBy workedOut judged repliesBy
 chunk-pins = refl
 
 pub meterTable : List (Row ℕ)
@@ -156,7 +153,7 @@ meterTable =
     ∷ []
 
 pub meter-pins : Agrees meterTable
-unfolding meterTable placeOf colourOf litAmong rowsOf litIn definedGroup isSingle reservedSpace knownTag slotFor misplaced repeated tagNumber roleFor sampleWith allowedAfter read step walked incomplete endNumber dictionaryNumber dictionarySample overlapsAny badDimmerTag clashingTag dimmerTagNumber mappingWith readDimmer stepDimmer dimmed dimmerNumber dimmerMapping countSum levelsFit tagsOf dataOf meant headerNumber tagsNumber routingNumber routeNumber heldElsewhere holderNumber closedNumber governs pointsOf litPointsOf levelsOf wholeOf sequelNumber matchNumber roomNumber drawNumber dimNumber contentNumber addedBy meterNumber ownNumber wholeNumber numberOf sumsAfter gatheringAfter lookback gatheringBy workedOut judged configurationOf consistentAt consistentUpTo consistent freshChannels sizesFit
+unfolding meterTable placeOf colourOf litAmong rowsOf litIn definedGroup isSingle reservedSpace knownTag slotFor misplaced repeated tagNumber roleFor sampleWith allowedAfter read step walked incomplete endNumber dictionaryNumber dictionarySample overlapsAny badDimmerTag clashingTag dimmerTagNumber mappingWith readDimmer stepDimmer dimmed dimmerNumber dimmerMapping countSum levelsFit tagsOf dataOf meant headerNumber tagsNumber routingNumber routeNumber heldElsewhere holderNumber closedNumber governs pointsOf litPointsOf levelsOf wholeOf sequelNumber matchNumber roomNumber drawNumber dimNumber contentNumber addedBy meterNumber wholeNumber inOrder numberOf sumsAfter gatheringAfter lookback gatheringBy workedOut judged configurationOf consistentAt consistentUpTo consistent freshChannels sizesFit
 meter-pins = refl
 
 -- the areas end where the octets of a record do

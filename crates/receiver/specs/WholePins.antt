@@ -19,7 +19,7 @@ use Rattle.receiver.specs.Slices.{lent, slices}
 use Rattle.receiver.specs.Chunk.{pointsOf, litPointsOf, levelsOf}
 use Rattle.receiver.specs.Gathering.{wholeOf}
 use Rattle.receiver.specs.Meters.{Sums, sums, addedBy}
-use Rattle.receiver.specs.Checks.{headerNumber, tagsNumber, routingNumber, routeNumber, heldElsewhere, holderNumber, closedNumber, governs, sequelNumber, matchNumber, roomNumber, drawNumber, dimNumber, contentNumber, meterNumber, ownNumber, wholeNumber, numberOf}
+use Rattle.receiver.specs.Checks.{headerNumber, tagsNumber, routingNumber, routeNumber, heldElsewhere, holderNumber, closedNumber, governs, sequelNumber, matchNumber, roomNumber, drawNumber, dimNumber, contentNumber, meterNumber, wholeNumber, inOrder, numberOf}
 use Rattle.receiver.specs.Effects.{replyOf, drawn, assemblyAfter, slicesAfter, sumsAfter, gatheringAfter}
 use Rattle.receiver.specs.LookBack.{lookback, gatheringBy, workedOut, judged, repliesBy, nextSlices}
 use Rattle.receiver.specs.PinMessages.{offered, numbersOf, metersAfter, fieldsAfter, numbersWith, gatheredAfter, assemblyLeft, eachOf, routing, plain, unrouted, fragment, sequel, lastSequel, drawingTags, bringing, twoColoured, frames, dark, alive, close, undivided, opening, middle, ending}
@@ -75,7 +75,7 @@ assemblyTable =
     ∷ []
 
 pub assembly-pins : Agrees assemblyTable
-unfolding filled assemblyTable placeOf colourOf litAmong rowsOf litIn definedGroup isSingle reservedSpace knownTag slotFor misplaced repeated tagNumber roleFor sampleWith allowedAfter read step walked incomplete endNumber dictionaryNumber dictionarySample overlapsAny badDimmerTag clashingTag dimmerTagNumber mappingWith readDimmer stepDimmer dimmed dimmerNumber dimmerMapping countSum levelsFit mappedSum levelsWritten tagsOf dataOf meant headerNumber tagsNumber routingNumber routeNumber heldElsewhere holderNumber closedNumber governs pointsOf litPointsOf levelsOf wholeOf sequelNumber matchNumber roomNumber drawNumber dimNumber contentNumber addedBy meterNumber ownNumber wholeNumber numberOf replyOf drawn assemblyAfter slicesAfter sumsAfter gatheringAfter lookback gatheringBy workedOut judged repliesBy
+unfolding filled assemblyTable placeOf colourOf litAmong rowsOf litIn definedGroup isSingle reservedSpace knownTag slotFor misplaced repeated tagNumber roleFor sampleWith allowedAfter read step walked incomplete endNumber dictionaryNumber dictionarySample overlapsAny badDimmerTag clashingTag dimmerTagNumber mappingWith readDimmer stepDimmer dimmed dimmerNumber dimmerMapping countSum levelsFit mappedSum levelsWritten tagsOf dataOf meant headerNumber tagsNumber routingNumber routeNumber heldElsewhere holderNumber closedNumber governs pointsOf litPointsOf levelsOf wholeOf sequelNumber matchNumber roomNumber drawNumber dimNumber contentNumber addedBy meterNumber wholeNumber inOrder numberOf replyOf drawn assemblyAfter slicesAfter sumsAfter gatheringAfter lookback gatheringBy workedOut judged repliesBy
 assembly-pins = refl
 
 pub wholeTable : List (Row ℕ)
@@ -121,7 +121,7 @@ wholeTable =
     ∷ []
 
 pub whole-pins : Agrees wholeTable
-unfolding limits wholeTable placeOf colourOf litAmong rowsOf litIn definedGroup isSingle reservedSpace knownTag slotFor misplaced repeated tagNumber roleFor sampleWith allowedAfter read step walked incomplete endNumber dictionaryNumber dictionarySample overlapsAny badDimmerTag clashingTag dimmerTagNumber mappingWith readDimmer stepDimmer dimmed dimmerNumber dimmerMapping countSum levelsFit mappedSum levelsWritten tagsOf dataOf meant headerNumber tagsNumber routingNumber routeNumber heldElsewhere holderNumber closedNumber governs pointsOf litPointsOf levelsOf wholeOf sequelNumber matchNumber roomNumber drawNumber dimNumber contentNumber addedBy meterNumber ownNumber wholeNumber numberOf replyOf sumsAfter gatheringAfter lookback gatheringBy workedOut judged repliesBy
+unfolding limits wholeTable placeOf colourOf litAmong rowsOf litIn definedGroup isSingle reservedSpace knownTag slotFor misplaced repeated tagNumber roleFor sampleWith allowedAfter read step walked incomplete endNumber dictionaryNumber dictionarySample overlapsAny badDimmerTag clashingTag dimmerTagNumber mappingWith readDimmer stepDimmer dimmed dimmerNumber dimmerMapping countSum levelsFit mappedSum levelsWritten tagsOf dataOf meant headerNumber tagsNumber routingNumber routeNumber heldElsewhere holderNumber closedNumber governs pointsOf litPointsOf levelsOf wholeOf sequelNumber matchNumber roomNumber drawNumber dimNumber contentNumber addedBy meterNumber wholeNumber inOrder numberOf replyOf sumsAfter gatheringAfter lookback gatheringBy workedOut judged repliesBy
 whole-pins = refl
 
 pub rowTable : List (Row ℤ)
@@ -138,5 +138,5 @@ rowTable =
     ∷ []
 
 pub row-pins : Agrees rowTable
-unfolding rowsLeft z rowTable placeOf colourOf intensityOf waveOf slotOf slotsOf litAmong rowsOf litIn definedGroup isSingle reservedSpace knownTag slotFor misplaced repeated tagNumber roleFor sampleWith allowedAfter read step walked incomplete endNumber dictionaryNumber dictionarySample overlapsAny badDimmerTag clashingTag dimmerTagNumber mappingWith readDimmer stepDimmer dimmed dimmerNumber dimmerMapping countSum levelsFit mappedSum levelsWritten tagsOf dataOf meant headerNumber tagsNumber routingNumber routeNumber heldElsewhere holderNumber closedNumber governs pointsOf litPointsOf levelsOf wholeOf sequelNumber matchNumber roomNumber drawNumber dimNumber contentNumber addedBy meterNumber ownNumber wholeNumber numberOf replyOf drawn assemblyAfter slicesAfter sumsAfter gatheringAfter lookback gatheringBy workedOut judged repliesBy
+unfolding rowsLeft z rowTable placeOf colourOf intensityOf waveOf slotOf slotsOf litAmong rowsOf litIn definedGroup isSingle reservedSpace knownTag slotFor misplaced repeated tagNumber roleFor sampleWith allowedAfter read step walked incomplete endNumber dictionaryNumber dictionarySample overlapsAny badDimmerTag clashingTag dimmerTagNumber mappingWith readDimmer stepDimmer dimmed dimmerNumber dimmerMapping countSum levelsFit mappedSum levelsWritten tagsOf dataOf meant headerNumber tagsNumber routingNumber routeNumber heldElsewhere holderNumber closedNumber governs pointsOf litPointsOf levelsOf wholeOf sequelNumber matchNumber roomNumber drawNumber dimNumber contentNumber addedBy meterNumber wholeNumber inOrder numberOf replyOf drawn assemblyAfter slicesAfter sumsAfter gatheringAfter lookback gatheringBy workedOut judged repliesBy
 row-pins = refl

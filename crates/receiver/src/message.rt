@@ -106,7 +106,8 @@ fn has_holder(channels: &[u8], h: Header) -> bool
     false
 }
 
-// Checks 15 to 19 and 24 to 26, by what was found to govern the message and what is gathered: the checks on the message itself.
+// Checks 15 to 19 and 24 to 26, by what was found to govern the message and what is gathered: the checks on the message itself. 15 comes
+// behind 17 to 19 (C-13).
 pub(crate) fn judge(
     found: Found,
     channels: &[u8],
@@ -125,10 +126,6 @@ pub(crate) fn judge(
     if refuses {
         return found.number;
     }
-    let elsewhere = has_holder(channels, h);
-    if elsewhere {
-        return 15;
-    }
     let config = found.config;
     let closed = !h.routing & (config.state == CLOSED);
     if closed {
@@ -142,9 +139,13 @@ pub(crate) fn judge(
     let start = h.start;
     let octets = data_of(m, start);
     let mismatch = match_number(h.chunk_type, config, octets);
+    let elsewhere = has_holder(channels, h);
     let unmatched = mismatch != 0;
     if unmatched {
         return mismatch;
+    }
+    if elsewhere {
+        return 15;
     }
     room_number(h, config, q, octets.len(), assembly)
 }

@@ -16,7 +16,7 @@ use Rattle.receiver.specs.Record.{openState, channelsOf, gatheringOf, co
 use Rattle.receiver.specs.Steps.{shownBy, heldStates, Governed, ownNumberOf}
 use Rattle.receiver.specs.declared.Receiver.{Receiver}
 use Rattle.receiver.proofs.HeaderLaws.{header-channel, header-type, header-routing, header-mode, header-start}
-use Rattle.receiver.proofs.CheckLaws.{data-start, data-length}
+use Rattle.receiver.proofs.CheckLaws.{first-none, data-start, data-length}
 use Rattle.receiver.proofs.JudgeLaws.{holder-states, number-refused, number-later, closed-state}
 use Rattle.receiver.proofs.message.judge.Statement.{statement}
 use Rattle.receiver.proofs.message.judge.Tie as tie
@@ -28,13 +28,10 @@ use Rattle.receiver.proofs.message.judge.Lts as lts
 abbrev start-of : tie.Else1 → tie.Start
 start-of c = c .before .before .before .before
 
-abbrev found-at : tie.After-has-holder → tie.Else1
-found-at c = c .before
+abbrev found-at : tie.Else2 → tie.Else1
+found-at c = c .before .before .before .before
 
-abbrev holder-at : tie.Else3 → tie.After-has-holder
-holder-at c = c .before .before .before .before .before
-
-abbrev open-at : tie.After-sequel-number → tie.Else3
+abbrev open-at : tie.After-sequel-number → tie.Else2
 open-at c = c .before
 
 abbrev sequel-at : tie.After-data-of → tie.After-sequel-number
@@ -43,12 +40,18 @@ sequel-at c = c .before .before
 abbrev data-at : tie.After-match-number → tie.After-data-of
 data-at c = c .before
 
-abbrev match-at : tie.After-room-number → tie.After-match-number
-match-at c = c .before .before
+abbrev match-at : tie.After-has-holder → tie.After-match-number
+match-at c = c .before
+
+abbrev matched-at : tie.Else4 → tie.After-has-holder
+matched-at c = c .before
+
+abbrev held-at : tie.After-room-number → tie.Else5
+held-at c = c .before
 
 -- where the number found was 0
 abbrev passed-at : tie.After-sequel-number → tie.Else1
-passed-at c = found-at (holder-at (open-at c))
+passed-at c = found-at (open-at c)
 
 -- ---- what is judged
 
@@ -71,11 +74,6 @@ passed c = eqb-true _ 0 (not-false _ (c .if1 .left))
 well-formed : (c : tie.Else1) → headerNumber (start-of c .args .m .now) ≡ 0
 well-formed c = start-of c .pre .1 .1 (passed c)
 
-holder-is : (c : tie.After-has-holder)
-    → let s = start-of (found-at c) in
-    holderNumber (s .args .m .now) (channelsOf (r s)) ≡ refuse (c .has-holder .result) 15
-holder-is c = held-is (start-of (found-at c)) ∙ ap (λ (b : Bool). refuse b 15) (sym (c .has-holder .ensures))
-
 -- the chunk that is judged is the message's
 chunk-is : (c : tie.After-data-of)
     → let s = start-of (passed-at (sequel-at c)) in
@@ -84,11 +82,20 @@ chunk-is c =
     let s = start-of (passed-at (sequel-at c)) in
     λ i. chunk (header-type (s .args .h) (s .args .m .now) (s .pre .1 .0) i) (c .data-of .ensures .0 i)
 
--- no other channel holds the mode
-not-held : (c : tie.Else3)
-    → let s = start-of (found-at (holder-at c)) in
-    holderNumber (s .args .m .now) (channelsOf (r s)) ≡ 0
-not-held c = holder-is (holder-at c) ∙ ap (λ (b : Bool). refuse b 15) (c .before .before .before .before .if2 .left)
+-- checks 17 to 19, and 15
+matched : (c : tie.After-match-number) (area : List ℕ)
+    → let s = start-of (passed-at (sequel-at (data-at c))) in
+    c .match-number .result ≡ matchNumber (chunkOf (s .args .m .now)) (configurationOf (s .args .found .config) area)
+matched c area =
+    let d = data-at c in
+    let s = start-of (passed-at (sequel-at d)) in
+    c .match-number .ensures area ∙ ap (λ (k : Chunk). matchNumber k (configurationOf (s .args .found .config) area)) (chunk-is d)
+
+holder-is : (c : tie.After-has-holder)
+    → let s = start-of (passed-at (sequel-at (data-at (match-at c)))) in
+    holderNumber (s .args .m .now) (channelsOf (r s)) ≡ refuse (c .has-holder .result) 15
+holder-is c =
+    held-is (start-of (passed-at (sequel-at (data-at (match-at c))))) ∙ ap (λ (b : Bool). refuse b 15) (sym (c .has-holder .ensures))
 
 -- ---- by what governs
 
@@ -102,11 +109,11 @@ module _ (c : tie.Else1) (area a : List ℕ)
 
   -- the checks that are left
   later : ownNumberOf (r s) (s .args .m .now) (s .args .assembly) a
-      ≡ first (holderNumber (s .args .m .now) (channelsOf (r s)))
-      (first (closedNumber (s .args .m .now) (channelsOf (r s)))
+      ≡ first (closedNumber (s .args .m .now) (channelsOf (r s)))
       (first (sequelNumber (s .args .m .now) v (gatheringOf (r s) a))
       (first (matchNumber (chunkOf (s .args .m .now)) v)
-      (roomNumber (s .args .m .now) v (gatheringOf (r s) a) (s .args .assembly)))))
+      (first (holderNumber (s .args .m .now) (channelsOf (r s)))
+      (first (roomNumber (s .args .m .now) v (gatheringOf (r s) a) (s .args .assembly)) 0))))
   later = number-later (r s) (s .args .m .now) (s .args .found) area governed (passed c) (s .args .assembly) a
 
   -- check 16
@@ -130,18 +137,11 @@ returns c area a governed =
 
 returns-2 : tie.Need-returns-2
 returns-2 c area a governed =
-    let e = c .before in
-    let held = holder-is e ∙ ap (λ (b : Bool). refuse b 15) (c .if2 .taken) in
-    sym (later (found-at e) area a governed ∙ rw held)
+    let e = c .before .before .before .before in
+    let closed = closed-is e area a governed ∙ ap (λ (b : Bool). refuse b 16) (c .if2 .taken) in
+    sym (later e area a governed ∙ rw closed)
 
-returns-3 : tie.Need-returns-3
-returns-3 c area a governed =
-    let e = c .before .before .before .before .before in
-    let held = holder-is e ∙ ap (λ (b : Bool). refuse b 15) (c .before .before .before .before .if2 .left) in
-    let closed = closed-is (found-at e) area a governed ∙ ap (λ (b : Bool). refuse b 16) (c .if3 .taken) in
-    sym (later (found-at e) area a governed ∙ rw (held, closed))
-
--- checks 15 and 16 are passed, and the later ones give the number
+-- check 16 is passed, and the later ones give the number
 module _ (c : tie.After-sequel-number) (area a : List ℕ)
     (governed : Governed (r (start-of (passed-at c))) (start-of (passed-at c) .args .m .now) (start-of (passed-at c) .args .found) area) where
   abbrev e : tie.Start
@@ -153,17 +153,16 @@ module _ (c : tie.After-sequel-number) (area a : List ℕ)
   open-number : ownNumberOf (r e) (e .args .m .now) (e .args .assembly) a
       ≡ first (c .sequel-number .result)
       (first (matchNumber (chunkOf (e .args .m .now)) u)
-      (roomNumber (e .args .m .now) u (gatheringOf (r e) a) (e .args .assembly)))
+      (first (holderNumber (e .args .m .now) (channelsOf (r e)))
+      (first (roomNumber (e .args .m .now) u (gatheringOf (r e) a) (e .args .assembly)) 0)))
   open-number =
-      let o = open-at c in
-      let closed = closed-is (passed-at c) area a governed ∙ ap (λ (b : Bool). refuse b 16) (o .if3 .left) in
-      later (passed-at c) area a governed
-      ∙ rw (not-held o, closed, ← c .sequel-number .ensures (e .args .m .now) area a (e .pre .1 .0))
+      let closed = closed-is (passed-at c) area a governed ∙ ap (λ (b : Bool). refuse b 16) (open-at c .if2 .left) in
+      later (passed-at c) area a governed ∙ rw (closed, ← c .sequel-number .ensures (e .args .m .now) area a (e .pre .1 .0))
 
-returns-4 : tie.Need-returns-4
-returns-4 c area a governed =
+returns-3 : tie.Need-returns-3
+returns-3 c area a governed =
     let n = c .before in
-    sym (open-number n area a governed ∙ rw (not-true (eqb (n .sequel-number .result) 0) (c .if4 .taken)))
+    sym (open-number n area a governed ∙ rw (not-true (eqb (n .sequel-number .result) 0) (c .if3 .taken)))
 
 data-of-requires : tie.Need-data-of-requires
 data-of-requires c κs =
@@ -172,52 +171,70 @@ data-of-requires c κs =
     let start = header-start (s .args .h) (s .args .m .now) (s .pre .1 .0) in
     (start, rw start (data-start (s .args .m .now) (well-formed f)))
 
-matched : (c : tie.After-match-number) (area : List ℕ)
-    → let s = start-of (passed-at (sequel-at (data-at c))) in
-    c .match-number .result ≡ matchNumber (chunkOf (s .args .m .now)) (configurationOf (s .args .found .config) area)
-matched c area =
-    let d = data-at c in
-    let s = start-of (passed-at (sequel-at d)) in
-    c .match-number .ensures area ∙ ap (λ (k : Chunk). matchNumber k (configurationOf (s .args .found .config) area)) (chunk-is d)
+-- 24 and 25 are passed too: 17 to 19 come next, then 15
+module _ (c : tie.After-has-holder) (area a : List ℕ)
+    (governed : let f = passed-at (sequel-at (data-at (match-at c))) in
+    Governed (r (start-of f)) (start-of f .args .m .now) (start-of f .args .found) area) where
+  abbrev n : tie.After-match-number
+  n = match-at c
+
+  abbrev q : tie.After-sequel-number
+  q = sequel-at (data-at n)
+
+  abbrev t : tie.Start
+  t = start-of (passed-at q)
+
+  chunk-number : ownNumberOf (r t) (t .args .m .now) (t .args .assembly) a
+      ≡ first (n .match-number .result)
+      (first (holderNumber (t .args .m .now) (channelsOf (r t)))
+      (first (roomNumber (t .args .m .now) (configurationOf (t .args .found .config) area) (gatheringOf (r t) a) (t .args .assembly)) 0))
+  chunk-number =
+      open-number q area a governed
+      ∙ rw (not-false (eqb (q .sequel-number .result) 0) (data-at n .before .if3 .left), ← matched n area)
+
+returns-4 : tie.Need-returns-4
+returns-4 c area a governed =
+    let o = c .before in
+    sym (chunk-number o area a governed ∙ rw (not-true (eqb (match-at o .match-number .result) 0) (c .if4 .taken)))
 
 returns-5 : tie.Need-returns-5
 returns-5 c area a governed =
-    let n = c .before in
-    let d = data-at n in
-    let q = sequel-at d in
-    sym
-    (open-number q area a governed
-    ∙ rw (not-false (eqb (q .sequel-number .result) 0) (d .before .if4 .left), ← matched n area, not-true (eqb (n .match-number .result) 0) (c .if5 .taken)))
+    let w = c .before in
+    let o = matched-at w in
+    let held = holder-is o ∙ ap (λ (b : Bool). refuse b 15) (c .if5 .taken) in
+    sym (chunk-number o area a governed ∙ rw (not-false (eqb (match-at o .match-number .result) 0) (w .if4 .left), held))
 
 room-number-requires : tie.Need-room-number-requires
 room-number-requires c κs =
-    let d = data-at (c .before) in
+    let d = data-at (match-at (matched-at (c .before))) in
     let f = passed-at (sequel-at d) in
     rw (d .data-of .ensures .0) (data-length (start-of f .args .m .now) (well-formed f))
 
 returns-6 : tie.Need-returns-6
 returns-6 c area a governed =
-    let n = match-at c in
-    let d = data-at n in
-    let q = sequel-at d in
-    let s = start-of (passed-at q) in
+    let k = held-at c in
+    let w = k .before in
+    let o = matched-at w in
+    let d = data-at (match-at o) in
+    let s = start-of (passed-at (sequel-at d)) in
+    let free = holder-is o ∙ ap (λ (b : Bool). refuse b 15) (k .if5 .left) in
     c .room-number .ensures (s .args .m .now) area a (s .pre .1 .0) (ap length (d .data-of .ensures .0))
     ∙ sym
-    (open-number q area a governed
-    ∙ rw (not-false (eqb (q .sequel-number .result) 0) (d .before .if4 .left), ← matched n area, not-false (eqb (n .match-number .result) 0) (c .before .if5 .left)))
+    (chunk-number o area a governed
+    ∙ rw (not-false (eqb (match-at o .match-number .result) 0) (w .if4 .left), free) (first-none _))
 
 pub judge-spec : {M : Type 1} → statement M
 judge-spec =
     tie.close
     (tie.spec
     returns
-    (λ c κs. search needs)
     returns-2
-    returns-3
     (λ c κs. search needs)
-    returns-4
+    returns-3
     data-of-requires
     (λ c κs. search needs)
+    (λ c κs. search needs)
+    returns-4
     returns-5
     room-number-requires
     returns-6)
