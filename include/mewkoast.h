@@ -3,7 +3,7 @@
  *
  * Sections: 1 refusal numbers of the tag layer, 2 the dictionary check,
  * 3 samples to rows, 4 dimmer levels, 5 the receiver with all 26 numbers.
- * Checks and limits are those of document 01 and of the requests C-11 to C-13;
+ * Checks and limits are those of document 01 and of the requests C-11 to C-14;
  * messages and tags are those of IDN-Stream, Revision 001.
  *
  * For x86-64 Linux. Link target/staticlib/libreceiver.a (`rt staticlib
@@ -25,7 +25,7 @@
 #include <stddef.h>
 #include <stdint.h>
 
-#define MEWKOAST_VERSION "0.8.0"
+#define MEWKOAST_VERSION "0.9.0"
 
 #ifdef __cplusplus
 extern "C" {
@@ -216,10 +216,11 @@ size_t mewkoast_levels(mewkoast_dimmer_mapping dimmer, uint8_t mode,
  * number of the next sequel, modulo 2 to the power 32.
  *
  * Two kinds of calls do the same. Those in place change the record where the
- * host keeps it: mewkoast_begin, mewkoast_offer, mewkoast_readings_of. They
- * copy nothing of it and take little stack. Those by value take a record and
- * hand back the next: mewkoast_start, mewkoast_message, mewkoast_readings.
- * They may be mixed.
+ * host keeps it: mewkoast_begin, mewkoast_offer, mewkoast_offer_set,
+ * mewkoast_readings_of. They copy nothing of it, mewkoast_offer_set apart, which
+ * makes one copy of its channels, and take little stack. Those by value take a record and hand
+ * back the next: mewkoast_start, mewkoast_message, mewkoast_patch,
+ * mewkoast_readings. They may be mixed.
  */
 typedef struct {
     uint64_t meters[3];
@@ -298,6 +299,21 @@ typedef struct {
     mewkoast_reply reply;
 } mewkoast_outcome;
 
+/*
+ * The reply to a set of messages. Accepted: number 0, and `place` is how many
+ * there were. Refused: the number of the first message that is refused, and
+ * `place` is its place in the set, counted from 0.
+ */
+typedef struct {
+    size_t place;
+    uint8_t number;
+} mewkoast_set_reply;
+
+typedef struct {
+    mewkoast_receiver receiver;
+    mewkoast_set_reply reply;
+} mewkoast_set_outcome;
+
 /* Lit microseconds, points, lit points. */
 typedef struct {
     uint64_t lit_time;
@@ -338,7 +354,28 @@ typedef struct {
  */
 
 /*
- * In place, on the three arrays of a record. A host uses the three functions
+ * Sets. A show opens its channels together: mewkoast_offer_set and
+ * mewkoast_patch take several messages of type 0x00, end to end in one slice,
+ * and accept all of them or none.
+ *
+ *   - Each is judged as if it were offered by itself to the record that the one
+ *     before left: 15 and 16 go by the channels as the messages before leave
+ *     them, and every number is the one in the table above. But a message of
+ *     another type than 0x00 gets 4, also where it could be offered by itself.
+ *     With configuration or without, keep-alive messages too.
+ *   - A size below 8 or past the end of the slice, or a lone octet, is one more
+ *     message, and gets 2; nothing after it is looked at.
+ *   - The first refused message ends it: the record is then as it came, octet
+ *     for octet. A broken record gets 1 at place 0, before anything else. No
+ *     octets at all are a set of no messages, which is accepted.
+ *   - No slice is lent: a message of type 0x00 draws nothing and adds nothing to
+ *     the meters. A routing or close of an accepted set drops a frame that is
+ *     gathered on its channel, as it does by itself; otherwise the assembly
+ *     slice is kept for the next fragment, whatever sets come between.
+ */
+
+/*
+ * In place, on the three arrays of a record. A host uses the four functions
  * after these, which pass the arrays of its record on.
  *
  * The host owes valid pointers and lengths and nothing else: `channels` to
@@ -360,6 +397,12 @@ mewkoast_reply mewkoast_offer_on(uint8_t *channels, size_t channels_length,
                                  int32_t *rows, size_t rows_length,
                                  uint8_t *levels, size_t levels_length,
                                  uint8_t *assembly, size_t assembly_length);
+/* The meters are only read. */
+mewkoast_set_reply mewkoast_patch_on(uint8_t *channels, size_t channels_length,
+                                     const uint64_t *meters,
+                                     size_t meters_length, uint32_t *gathered,
+                                     size_t gathered_length,
+                                     const uint8_t *octets, size_t length);
 /* The three readings as they stand; a meter that is not lent is read as 0. */
 mewkoast_meters mewkoast_readings_on(const uint64_t *meters,
                                      size_t meters_length);
@@ -406,6 +449,20 @@ mewkoast_offer(mewkoast_receiver *receiver, const uint8_t *octets,
                              assembly, assembly_length);
 }
 
+/*
+ * Offers the messages of a set, end to end in `length` octets, to the receiver:
+ * all are accepted, and it is left as the last one leaves it, or it is left as
+ * it came. The host owes a valid pointer and length and nothing else.
+ */
+static inline mewkoast_set_reply
+mewkoast_offer_set(mewkoast_receiver *receiver, const uint8_t *octets,
+                  size_t length)
+{
+    return mewkoast_patch_on(receiver->channels, sizeof receiver->channels,
+                             receiver->meters, 3, receiver->gathered, 4, octets,
+                             length);
+}
+
 /* The three readings of a record as they stand. */
 static inline mewkoast_meters
 mewkoast_readings_of(const mewkoast_receiver *receiver)
@@ -428,6 +485,13 @@ mewkoast_outcome mewkoast_message(mewkoast_receiver receiver,
                                   int32_t *rows, size_t rows_length,
                                   uint8_t *levels, size_t levels_length,
                                   uint8_t *assembly, size_t assembly_length);
+
+/*
+ * By value: what mewkoast_offer_set does to the record given, with the next one
+ * beside the reply; the one given stays as it is.
+ */
+mewkoast_set_outcome mewkoast_patch(mewkoast_receiver receiver,
+                                    const uint8_t *octets, size_t length);
 
 /* By value: what mewkoast_readings_of gives. */
 mewkoast_meters mewkoast_readings(mewkoast_receiver receiver);

@@ -2,9 +2,9 @@
 //! its channel; it has no configuration itself, except in the routing cases. A
 //! frame in fragments is measured whole, from its first to its last.
 
-const VOID: u8 = 0x00;
+pub const VOID: u8 = 0x00;
 const WAVE: u8 = 0x01;
-const FRAME: u8 = 0x02;
+pub const FRAME: u8 = 0x02;
 const FIRST: u8 = 0x03;
 const LEVELS: u8 = 0x18;
 const SEQUEL: u8 = 0xC0;
@@ -25,9 +25,9 @@ pub struct Case {
 }
 
 /// The name of a layout, its tags in mode 1, and the octets of a sample.
-type Layout = (&'static str, &'static [u16], usize);
+pub type Layout = (&'static str, &'static [u16], usize);
 
-const LAYOUTS: [Layout; 3] = [
+pub const LAYOUTS: [Layout; 3] = [
     // IDN-Stream, 3.4.11: X and Y with precision, three colours.
     (
         "sparse",
@@ -206,7 +206,7 @@ fn opened_dimmer(channel: u8) -> Vec<u8> {
 }
 
 /// 32 tags 43 of 16 levels each.
-fn ranges() -> Vec<u8> {
+pub fn ranges() -> Vec<u8> {
     (0u16..32)
         .flat_map(|range| {
             let [high, low] = (1 + 16 * range).to_be_bytes();
@@ -216,7 +216,7 @@ fn ranges() -> Vec<u8> {
 }
 
 /// Tags as octets; the hint with a shutter (4101) is for waves alone.
-fn words(kind: u8, tags: &[u16]) -> Vec<u8> {
+pub fn words(kind: u8, tags: &[u16]) -> Vec<u8> {
     tags.iter()
         .map(|tag| match *tag {
             0x4101 if kind == FRAME => 0x4100,
@@ -227,7 +227,7 @@ fn words(kind: u8, tags: &[u16]) -> Vec<u8> {
 }
 
 /// A message with Routing, its tags filled up to whole words, and a Void chunk.
-fn routing(channel: u8, service: u8, mode: u8, tags: &[u8]) -> Vec<u8> {
+pub fn routing(channel: u8, service: u8, mode: u8, tags: &[u8]) -> Vec<u8> {
     let mut tags = tags.to_vec();
     while tags.len() % 4 != 0 {
         tags.push(0);
@@ -238,7 +238,7 @@ fn routing(channel: u8, service: u8, mode: u8, tags: &[u8]) -> Vec<u8> {
 }
 
 /// A message without configuration.
-fn plain(channel: u8, kind: u8, data: &[u8]) -> Vec<u8> {
+pub fn plain(channel: u8, kind: u8, data: &[u8]) -> Vec<u8> {
     sized(0x80 | channel, kind, data)
 }
 

@@ -109,13 +109,13 @@ impl Lent {
 }
 
 /// The proved receiver, by value.
-struct ByValue {
-    kept: Box<Outcome>,
+pub struct ByValue {
+    pub kept: Box<Outcome>,
     lent: Lent,
 }
 
 impl ByValue {
-    fn start() -> ByValue {
+    pub fn start() -> ByValue {
         ByValue {
             kept: Box::new(calls::start([0; 3])),
             lent: Lent::new(),
@@ -197,14 +197,14 @@ impl Host for ByValue {
 }
 
 /// The proved receiver, in place.
-struct InPlace {
-    receiver: Box<calls::Receiver>,
+pub struct InPlace {
+    pub receiver: Box<calls::Receiver>,
     reply: calls::Reply,
     lent: Lent,
 }
 
 impl InPlace {
-    fn start() -> InPlace {
+    pub fn start() -> InPlace {
         let mut receiver = Box::new(calls::Receiver {
             meters: [7; 3],
             gathered: [7; 4],

@@ -1,7 +1,8 @@
 //! Measures the proved receiver, by value and in place, through its C calls,
-//! beside the receiver of tests/decoder and the one of card.h. The exit status
-//! is not 0 only if they differ, a file cannot be written or the usage is
-//! wrong; no time is judged.
+//! beside the receiver of tests/decoder and the one of card.h, and sets of
+//! messages beside the same messages one by one. The exit status is not 0 only
+//! if they differ, a file cannot be written or the usage is wrong; no time is
+//! judged.
 //!
 //! usage: receiver_bench [FILE]
 //!        receiver_bench --names
@@ -17,11 +18,14 @@ mod card;
 mod cases;
 mod hosts;
 mod report;
+mod sets;
 mod stack;
 mod time;
 
 #[path = "../../tests/calls.rs"]
 mod calls;
+#[path = "../../tests/receiver/set_calls.rs"]
+mod set_calls;
 
 use cases::Case;
 use hosts::{Host, WAYS};
@@ -70,6 +74,10 @@ fn tables(cases: &[Case], file: Option<&str>) -> bool {
     report::copies(cases);
     println!();
     report::stacks(cases);
+    println!();
+    if !sets::tables() {
+        return false;
+    }
     let written = file.map_or(Ok(()), |file| {
         std::fs::write(file, report::tabs(cases, &bests))
     });

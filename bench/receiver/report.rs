@@ -91,19 +91,24 @@ pub fn stacks(cases: &[Case]) {
     println!("octets of stack below the frame of the host, least and most of all cases");
     for (way, name) in WAYS.iter().enumerate() {
         let depths: Option<Vec<usize>> = cases.iter().map(|case| stack::of(way, case)).collect();
-        match depths
-            .as_deref()
-            .map(|all| (all.iter().min(), all.iter().max()))
-        {
-            Some((Some(least), Some(most))) => println!("{name:<8} {least:>6} {most:>6}"),
-            _ => println!("{name:<8} not measured, no thread started"),
-        }
+        least_and_most(name, depths);
     }
     println!(
         "sizes: receiver {}, outcome {}",
         size_of::<calls::Receiver>(),
         size_of::<calls::Outcome>()
     );
+}
+
+/// A line with the least and the most of depths; none if no thread started.
+pub fn least_and_most(name: &str, depths: Option<Vec<usize>>) {
+    match depths
+        .as_deref()
+        .map(|all| (all.iter().min(), all.iter().max()))
+    {
+        Some((Some(least), Some(most))) => println!("{name:<8} {least:>6} {most:>6}"),
+        _ => println!("{name:<8} not measured, no thread started"),
+    }
 }
 
 /// The times in the form that bench/picture.rs reads.

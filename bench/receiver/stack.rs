@@ -2,7 +2,7 @@
 //! the lowest octet that changed tells how deep the stack was.
 
 use crate::cases::Case;
-use crate::hosts::{open, Host};
+use crate::hosts::open;
 use std::ffi::c_void;
 
 /// Above what any call here takes; a multiple of the page.
@@ -27,8 +27,7 @@ extern "C" {
 
 /// What the thread does, and where its own frame stands.
 struct Work<'a> {
-    host: &'a mut dyn Host,
-    octets: &'a [u8],
+    call: &'a mut dyn FnMut(),
     top: usize,
 }
 
@@ -41,18 +40,14 @@ pub fn of(way: usize, case: &Case) -> Option<usize> {
     let mut host = open(way, case);
     let (last, before) = case.messages.split_last()?;
     before.iter().for_each(|octets| host.offer(octets));
-    depth(&mut *host, last)
+    depth(&mut || host.offer(last))
 }
 
 /// The octets below the frame that makes the call.
-fn depth(host: &mut dyn Host, octets: &[u8]) -> Option<usize> {
+pub fn depth(call: &mut dyn FnMut()) -> Option<usize> {
     let mut pages = vec![Page([PATTERN; 4096]); ROOM / 4096];
     let lowest = pages.as_mut_ptr();
-    let mut work = Work {
-        host,
-        octets,
-        top: 0,
-    };
+    let mut work = Work { call, top: 0 };
     let mut attributes = Attributes([0; 64]);
     let mut thread = 0;
     // The pages and the work outlive the thread, which is joined here.
@@ -74,6 +69,6 @@ extern "C" fn enter(argument: *mut c_void) -> *mut c_void {
     let work = unsafe { &mut *argument.cast::<Work>() };
     let marker = 0u8;
     work.top = &raw const marker as usize;
-    work.host.offer(work.octets);
+    (work.call)();
     std::ptr::null_mut()
 }

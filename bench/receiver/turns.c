@@ -2,7 +2,7 @@
  * A C host that keeps the receiver in two variables of its own by turns. gcc
  * has the call write the outcome where it is kept, so that one copy of the
  * record is made for each message, the argument. A host that keeps it in one
- * place, as examples/host.c does, makes another.
+ * place, as examples/host.c does, makes another. The same for sets.
  */
 #include "mewkoast.h"
 
@@ -24,6 +24,8 @@ struct turn_lent {
 void offer_in_turns(mewkoast_outcome *kept, size_t times,
                     const struct turn_message *messages, size_t count,
                     const struct turn_lent *lent);
+void patch_in_turns(mewkoast_set_outcome *kept, size_t times,
+                    const uint8_t *octets, size_t length);
 
 #define NEXT(from)                                                             \
     mewkoast_message((from).receiver, messages[place].octets,                  \
@@ -48,6 +50,24 @@ void offer_in_turns(mewkoast_outcome *kept, size_t times,
     }
     if (times == 1) {
         b = NEXT(a);
+        a = b;
+    }
+    *kept = a;
+}
+
+/* A set, so many times. */
+void patch_in_turns(mewkoast_set_outcome *kept, size_t times,
+                    const uint8_t *octets, size_t length)
+{
+    mewkoast_set_outcome a = *kept;
+    mewkoast_set_outcome b;
+
+    for (; times >= 2; times -= 2) {
+        b = mewkoast_patch(a.receiver, octets, length);
+        a = mewkoast_patch(b.receiver, octets, length);
+    }
+    if (times == 1) {
+        b = mewkoast_patch(a.receiver, octets, length);
         a = b;
     }
     *kept = a;

@@ -1,11 +1,13 @@
-//! A second decoder, written from document 01, requests C-11 to C-13 of
+//! A second decoder, written from document 01, requests C-11 to C-14 of
 //! document 02 and source document 003 alone. The tests compare the proved
 //! functions with it. What generates messages for the comparisons is in
 //! tests/generate.
 
+pub mod calls;
 pub mod chunk;
 pub mod dictionary;
 pub mod dimmer;
+pub mod end_to_end;
 pub mod gathering;
 pub mod listing;
 pub mod lookback;
@@ -13,6 +15,7 @@ pub mod message;
 pub mod receiver;
 pub mod route;
 pub mod rows;
+pub mod set;
 mod split;
 
 // The paper's bench table, and more cases worked out by hand.
@@ -38,6 +41,16 @@ mod history;
 mod receiver_edges;
 #[cfg(test)]
 mod receiver_table;
+#[cfg(test)]
+mod set_channels;
+#[cfg(test)]
+mod set_checks;
+#[cfg(test)]
+mod set_edges;
+#[cfg(test)]
+mod set_gathered;
+#[cfg(test)]
+mod set_list;
 #[cfg(test)]
 mod table;
 #[cfg(test)]

@@ -1,6 +1,7 @@
 //! The listing program's text: document 01, "Calls and layers", "The listing
 //! program reads messages end to end from standard input", and request C-12.
 
+use crate::end_to_end::{end_to_end, Cut};
 use crate::receiver::{Receiver, Reply};
 
 /// "lends 12,000 numbers and 1,024 octets".
@@ -18,31 +19,17 @@ pub fn listing(input: &[u8]) -> String {
     let mut levels = vec![0; OCTETS];
     let mut assembly = vec![0; ASSEMBLY];
     let mut text = String::new();
-    let mut rest = input;
-    while !rest.is_empty() {
-        let Some(size) = next(rest) else {
+    for message in end_to_end(input) {
+        text += &match message {
+            Ok(octets) => line(&receiver.message(octets, &mut rows, &mut levels, &mut assembly)),
             // "prints "cut" and the count of octets from there to the end of
             // the input instead; then only the meters line follows."
-            text += &format!("cut {}\n", rest.len());
-            break;
+            Err(Cut(rest)) => format!("cut {}\n", rest.len()),
         };
-        let (octets, after) = rest.split_at(size);
-        text += &line(&receiver.message(octets, &mut rows, &mut levels, &mut assembly));
-        rest = after;
     }
     // "then "meters" and the readings".
     let [lit_time, points, lit_points] = receiver.readings();
     text + &format!("meters {lit_time} {points} {lit_points}\n")
-}
-
-/// The size of the next message; none for "A size below 8 or past the end, or
-/// a lone octet".
-fn next(rest: &[u8]) -> Option<usize> {
-    let [high, low, ..] = rest else {
-        return None;
-    };
-    let size = usize::from(u16::from_be_bytes([*high, *low]));
-    (size >= 8 && size <= rest.len()).then_some(size)
 }
 
 /// "channel type number points lit", all five from the reply.

@@ -3,7 +3,8 @@
 //! for as long as a frame is gathered, demand 3 holds with split frames too",
 //! and request C-13: "histories are metered under the new order". Nothing is
 //! kept from message to message but the list itself and the numbers and
-//! additions already worked out for its earlier messages.
+//! additions already worked out for its earlier messages. Lists in which sets
+//! stand among the messages are in calls.rs.
 
 use crate::chunk::{self, Content, Lent};
 use crate::message::{self, Channel, Message, FIRST, SEQUEL};
@@ -29,23 +30,62 @@ pub struct Verdict {
 /// The verdicts of all messages of a list that begins at starting readings
 /// up to the limit.
 pub fn verdicts(start: [u64; 3], list: &[Offered]) -> Vec<Verdict> {
-    let mut earlier: Vec<Verdict> = Vec::new();
+    let mut history = History::new(start);
     for offered in list {
-        let past = Past {
+        history.message(*offered);
+    }
+    history.verdicts
+}
+
+/// The messages that count so far, with their verdicts.
+pub(crate) struct History<'a> {
+    start: [u64; 3],
+    list: Vec<Offered<'a>>,
+    verdicts: Vec<Verdict>,
+}
+
+impl<'a> History<'a> {
+    pub fn new(start: [u64; 3]) -> History<'a> {
+        History {
             start,
-            list: &list[..earlier.len()],
-            verdicts: &earlier,
+            list: Vec::new(),
+            verdicts: Vec::new(),
+        }
+    }
+
+    /// Works out the number of one more message, which counts from here on.
+    pub fn message(&mut self, offered: Offered<'a>) -> u32 {
+        let past = Past {
+            start: self.start,
+            list: &self.list,
+            verdicts: &self.verdicts,
         };
-        let verdict = match past.adds(offered) {
+        let verdict = match past.adds(&offered) {
             Ok(adds) => Verdict { number: 0, adds },
             Err(number) => Verdict {
                 number,
                 adds: [0; 3],
             },
         };
-        earlier.push(verdict);
+        self.list.push(offered);
+        self.verdicts.push(verdict);
+        verdict.number
     }
-    earlier
+
+    /// How many messages count.
+    pub fn count(&self) -> usize {
+        self.list.len()
+    }
+
+    /// Takes back all messages but the first so many.
+    pub fn keep(&mut self, count: usize) {
+        self.list.truncate(count);
+        self.verdicts.truncate(count);
+    }
+
+    pub fn sums(&self) -> [u64; 3] {
+        sums(self.start, &self.verdicts)
+    }
 }
 
 /// "the running sums of the list, which are the starting readings plus what

@@ -1,5 +1,5 @@
 //! The parts of a message: document 01, "One message" and checks 2 to 5, and
-//! request C-12.
+//! requests C-12 and C-14.
 
 pub use crate::rows::{FRAME, WAVE};
 
@@ -45,8 +45,18 @@ pub struct Message<'a> {
     pub data: &'a [u8],
 }
 
+/// Check 4: "The type is not 0x00, 0x01, 0x02 or 0x18"; request C-12: "Check 4
+/// lets both types in".
+const LET_IN: [u8; 6] = [VOID, WAVE, FRAME, LEVELS, FIRST, SEQUEL];
+
 /// Checks 2 to 5.
 pub fn read(octets: &[u8]) -> Result<Message<'_>, u32> {
+    read_among(octets, &LET_IN)
+}
+
+/// The same where check 4 lets these types in. Request C-14 has sets of
+/// messages of one type.
+pub fn read_among<'a>(octets: &'a [u8], let_in: &[u8]) -> Result<Message<'a>, u32> {
     // "The length is below 8, above 65,280, or not Total Size."
     let length = octets.len();
     if length < 8 || length > MOST || total_size(octets) != length {
@@ -56,9 +66,7 @@ pub fn read(octets: &[u8]) -> Result<Message<'_>, u32> {
     if octets[2] & 0x80 == 0 {
         return Err(3);
     }
-    // "The type is not 0x00, 0x01, 0x02 or 0x18"; request C-12: "Check 4 lets
-    // both types in".
-    if !matches!(octets[3], VOID | WAVE | FRAME | LEVELS | FIRST | SEQUEL) {
+    if !let_in.contains(&octets[3]) {
         return Err(4);
     }
     let mut message = Message {

@@ -49,18 +49,7 @@ pub struct Stream {
 pub fn stream(random: &mut Random, most: usize) -> Stream {
     let start = start(random);
     let count = random.between(1, most);
-    let channels = random.pick(&[1, 2, 3, 3, 4, 6, 64]);
-    let sender = Sender::new(random);
-    let mut maker = Maker {
-        channels: (0..channels).map(|_| random.octet() & 0x3F).collect(),
-        receiver: Receiver::start(start[0], start[1], start[2]).0,
-        rows: vec![0; 24 * message::MOST],
-        levels: vec![0; 4096],
-        assembly: vec![0; LONGEST],
-        lengths: Lengths::new(random, sender.splits()),
-        sender,
-        asked: None,
-    };
+    let mut maker = Maker::new(random, start);
     let mut offers: Vec<Offer> = Vec::new();
     let mut steady = true;
     while offers.len() < count {
@@ -79,9 +68,9 @@ pub fn stream(random: &mut Random, most: usize) -> Stream {
 }
 
 /// Makes messages that fit what the receiver has come to, most of them.
-struct Maker {
-    channels: Vec<u8>,
-    receiver: Receiver,
+pub(crate) struct Maker {
+    pub channels: Vec<u8>,
+    pub receiver: Receiver,
     rows: Vec<i32>,
     levels: Vec<u8>,
     assembly: Vec<u8>,
@@ -93,14 +82,30 @@ struct Maker {
 }
 
 impl Maker {
-    fn follow(&mut self, offer: &Offer) {
+    pub fn new(random: &mut Random, start: [u64; 3]) -> Maker {
+        let channels = random.pick(&[1, 2, 3, 3, 4, 6, 64]);
+        let sender = Sender::new(random);
+        Maker {
+            channels: (0..channels).map(|_| random.octet() & 0x3F).collect(),
+            receiver: Receiver::start(start[0], start[1], start[2]).0,
+            rows: vec![0; 24 * message::MOST],
+            levels: vec![0; 4096],
+            assembly: vec![0; LONGEST],
+            lengths: Lengths::new(random, sender.splits()),
+            sender,
+            asked: None,
+        }
+    }
+
+    pub fn follow(&mut self, offer: &Offer) {
         let rows = &mut self.rows[..offer.lent.rows];
         let levels = &mut self.levels[..offer.lent.levels];
         let assembly = &mut self.assembly[..offer.lent.assembly];
         self.receiver.message(&offer.octets, rows, levels, assembly);
     }
 
-    fn offer(&mut self, random: &mut Random, earlier: &[Offer]) -> Offer {
+    /// The next message; `earlier` are those before it.
+    pub fn offer(&mut self, random: &mut Random, earlier: &[Offer]) -> Offer {
         let lengths = &mut self.lengths;
         let sent = (self.sender).next(random, &self.receiver, &self.channels, lengths);
         // Fewer of the fragments are damaged, so that frames come to their end.

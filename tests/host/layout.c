@@ -1,8 +1,8 @@
 /*
  * Prints, for each field of each struct of include/mewkoast.h, its place and
  * size; then the size of the struct. layout.rs prints the same for the structs
- * of tests/tag_calls.rs and tests/calls.rs, with which every test calls the
- * archives.
+ * of tests/tag_calls.rs, tests/calls.rs and tests/receiver/set_calls.rs, with
+ * which every test calls the archives.
  */
 #include "mewkoast.h"
 
@@ -52,6 +52,12 @@ static void receiver(void)
     FIELD(mewkoast_outcome, receiver);
     FIELD(mewkoast_outcome, reply);
     WHOLE(mewkoast_outcome);
+    FIELD(mewkoast_set_reply, place);
+    FIELD(mewkoast_set_reply, number);
+    WHOLE(mewkoast_set_reply);
+    FIELD(mewkoast_set_outcome, receiver);
+    FIELD(mewkoast_set_outcome, reply);
+    WHOLE(mewkoast_set_outcome);
     FIELD(mewkoast_meters, lit_time);
     FIELD(mewkoast_meters, points);
     FIELD(mewkoast_meters, lit_points);

@@ -9,6 +9,7 @@ use crate::lent::{Record, Slices};
 use crate::messages::{first_fragment, FRAME, ROUTINGS};
 use crate::most::MOST;
 use crate::record::{channel, Channel, CHANNELS, KNOWN};
+use crate::set_records;
 use crate::tally::Tally;
 use decoder::receiver::{Reply, LIMIT};
 use generate::random::Random;
@@ -125,6 +126,9 @@ impl Copies<'_> {
             self.refused(&copy, &FRAME);
             self.refused(&copy, &first_fragment(2));
             self.tally.number(1);
+            set_records::broken(&copy, self.way, self.tally);
+        } else {
+            set_records::sound(&copy, self.way, self.tally);
         }
     }
 

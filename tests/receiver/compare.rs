@@ -2,122 +2,29 @@
 //! receiver and the look-back rule.
 
 use crate::calls;
+use crate::kept::Kept;
 use crate::lent::{Lengths, Record, Slices};
 use crate::record::shown;
 use crate::section;
 use crate::tally::Tally;
 use decoder::chunk::Lent;
 use decoder::lookback::{sums, verdicts, Offered};
-use decoder::receiver::{Gathering, Receiver, Reply};
+use decoder::receiver::Receiver;
 use generate::assembly::LONGEST;
 use generate::random::Random;
 use generate::stream::{Offer, Stream};
 
-/// What a message gives, whichever way it is offered.
-struct Given<'a> {
-    reply: Reply,
-    readings: [u64; 3],
-    /// The numbers of the frame that is being gathered; none if there is none.
-    gathered: Option<[u32; 4]>,
-    slices: &'a Slices,
-}
-
-impl Given<'_> {
-    fn same(&self, expected: &Given, name: &str, tally: &mut Tally) -> bool {
-        let (reply, wanted) = (self.reply, expected.reply);
-        let mut same = tally.same(reply == wanted, || {
-            format!("{name}: {reply:?}, expected {wanted:?}")
-        });
-        let (readings, wanted) = (self.readings, expected.readings);
-        same &= tally.same(readings == wanted, || {
-            format!("{name}: readings {readings:?}, expected {wanted:?}")
-        });
-        let (gathered, wanted) = (self.gathered, expected.gathered);
-        same &= tally.same(gathered == wanted, || {
-            format!("{name}: gathered {gathered:?}, expected {wanted:?}")
-        });
-        let (slices, wanted) = (self.slices, expected.slices);
-        for (same_slice, which) in [
-            (slices.rows == wanted.rows, "rows"),
-            (slices.levels == wanted.levels, "levels"),
-            (slices.assembly.same(&wanted.assembly), "assembly slice"),
-        ] {
-            same &= tally.same(same_slice, || format!("{name}: the {which}"));
-        }
-        same
-    }
-}
-
-/// The numbers that a record has of what the second receiver gathers:
-/// include/mewkoast.h has their order.
-fn numbers(held: Gathering) -> [u32; 4] {
-    let octets = u32::try_from(held.octets).unwrap();
-    [
-        u32::from(held.channel) + 1,
-        octets,
-        held.timestamp,
-        held.sequel,
-    ]
-}
-
-/// A receiver, and the slices that its host lends: rows and levels are other
-/// ones for each message, the assembly slice is a part of one buffer.
-struct Kept<R> {
-    receiver: R,
-    slices: Slices,
-}
-
-impl Kept<calls::Receiver> {
-    fn offer(&mut self, octets: &[u8]) -> Given<'_> {
-        let next = self.slices.message(&self.receiver, octets);
-        self.receiver = next.receiver;
-        Given {
-            reply: next.reply.own(),
-            readings: calls::readings(&self.receiver),
-            gathered: shown(&self.receiver.gathered),
-            slices: &self.slices,
-        }
-    }
-}
-
-impl Kept<Record> {
-    fn offer(&mut self, octets: &[u8]) -> Given<'_> {
-        Given {
-            reply: self.receiver.offer(octets, &mut self.slices),
-            readings: self.receiver.readings(),
-            gathered: shown(self.receiver.gathered.read()),
-            slices: &self.slices,
-        }
-    }
-}
-
-impl Kept<Receiver> {
-    fn offer(&mut self, octets: &[u8]) -> Given<'_> {
-        let Slices {
-            rows,
-            levels,
-            assembly,
-        } = &mut self.slices;
-        let lent = (rows.slice(), levels.slice(), assembly.slice());
-        Given {
-            reply: self.receiver.message(octets, lent.0, lent.1, lent.2),
-            readings: self.receiver.readings(),
-            gathered: self.receiver.gathering().map(numbers),
-            slices: &self.slices,
-        }
-    }
-}
-
 /// The receivers, and what the proved one gave so far.
-struct All {
-    by_value: Kept<calls::Receiver>,
-    in_place: Kept<Record>,
-    second: Kept<Receiver>,
+#[derive(Clone)]
+pub struct All {
+    pub by_value: Kept<calls::Receiver>,
+    pub in_place: Kept<Record>,
+    pub second: Kept<Receiver>,
     given: Vec<(u32, [u64; 3])>,
 }
 
 impl All {
-    fn start(readings: [u64; 3], tally: &mut Tally) -> All {
+    pub fn start(readings: [u64; 3], tally: &mut Tally) -> All {
         let [lit_time, points, lit_points] = readings;
         let (second, expected) = Receiver::start(lit_time, points, lit_points);
         let started = calls::start(readings);
@@ -143,9 +50,9 @@ impl All {
         };
         let slices = Slices::new(lent, tally.messages as u32);
         All {
-            by_value: kept(by_value, &slices),
-            in_place: kept(in_place, &slices),
-            second: kept(second, &slices),
+            by_value: Kept::new(by_value, &slices),
+            in_place: Kept::new(in_place, &slices),
+            second: Kept::new(second, &slices),
             given: Vec::new(),
         }
     }
@@ -159,7 +66,7 @@ impl All {
     }
 
     /// Offers one message to all; true if they did the same.
-    fn offer(&mut self, offer: &Offer, name: &str, tally: &mut Tally) -> bool {
+    pub fn offer(&mut self, offer: &Offer, name: &str, tally: &mut Tally) -> bool {
         let salt = 0x9E37_79B1u32.wrapping_mul(tally.messages as u32 | 1);
         let next = Slices::rows_and_levels(offer.lent, salt);
         for slices in self.slices() {
@@ -188,6 +95,11 @@ impl All {
         })
     }
 
+    /// The number that the latest message got.
+    pub fn last_number(&self) -> u32 {
+        self.given.last().map_or(0, |(number, _)| *number)
+    }
+
     /// Alters some octets of the assembly slice, most of them octets of the
     /// frame that is being gathered.
     fn alter(&mut self, random: &mut Random) {
@@ -206,7 +118,7 @@ impl All {
     }
 
     /// Every octet of the buffers, also those that were not lent at last.
-    fn ended(&self, name: &str, tally: &mut Tally) {
+    pub fn ended(&self, name: &str, tally: &mut Tally) {
         let expected = &self.second.slices.assembly;
         for given in [&self.by_value.slices, &self.in_place.slices] {
             tally.same(given.assembly == *expected, || {
@@ -228,13 +140,6 @@ impl All {
                 format!("{name}, message {place}: {number} {readings:?}, look-back {expected:?}")
             });
         }
-    }
-}
-
-fn kept<R>(receiver: R, slices: &Slices) -> Kept<R> {
-    Kept {
-        receiver,
-        slices: slices.clone(),
     }
 }
 

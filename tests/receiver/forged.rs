@@ -6,6 +6,7 @@ use crate::lent::{Record, Slices};
 use crate::messages::{frame, keep_alive, levels, FRAME};
 use crate::record::{self, channel, Channel, CHANNELS, DIMMER, GRAPHIC, LAYOUT};
 use crate::tally::Tally;
+use crate::{set_calls, set_records};
 use decoder::receiver::Reply;
 
 /// Ranges that are not within 1 to 512.
@@ -139,6 +140,20 @@ impl Copies<'_> {
         let one = self.levels(1);
         self.same_as(copy, *record, &[&alive, &FRAME[..3], &one]);
         self.same_as(copy, *record, &[&routing, &alive]);
+        for octets in set_records::on_channel(number) {
+            self.set_same_as(&copy, &octets);
+        }
+    }
+
+    /// A set on a copy gets the reply that it gets on the record, and leaves
+    /// what its messages one by one leave.
+    fn set_same_as(&mut self, copy: &Receiver, octets: &[u8]) {
+        let expected = set_calls::patch(self.record, octets).reply.own();
+        let reply = set_calls::patch(copy, octets).reply.own();
+        self.tally.same(reply == expected, || {
+            format!("a forged record, a set: {reply:?}, not {expected:?}")
+        });
+        set_records::one_by_one(copy, octets, self.number, self.tally);
     }
 
     /// Offers messages to a copy by value and in place, and to the record that

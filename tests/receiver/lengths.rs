@@ -4,9 +4,11 @@
 
 use crate::calls::{self, Receiver};
 use crate::lent::{Lengths, Lent, Record, Slices};
-use crate::messages::{first_fragment, keep_alive, FRAME};
+use crate::messages::{first_fragment, keep_alive, FRAME, ROUTINGS};
+use crate::set_calls;
 use crate::tally::Tally;
 use decoder::receiver::{Reply, LIMIT};
+use decoder::set::SetReply;
 
 /// Lengths around those of a record, of each array.
 const CHANNELS: [usize; 6] = [6528, 0, 1, 64, 6527, 6529];
@@ -38,6 +40,9 @@ fn refuses(given: &Record, tally: &mut Tally) {
     message(given, &first_fragment(5), tally);
     message(given, &keep_alive(5), tally);
     message(given, &[], tally);
+    set(given, &[], tally);
+    set(given, &[0], tally);
+    set(given, &ROUTINGS.concat(), tally);
 }
 
 fn begin(given: &Record, tally: &mut Tally) {
@@ -53,6 +58,19 @@ fn message(given: &Record, octets: &[u8], tally: &mut Tally) {
     let reply = lent.offer(octets, &mut slices);
     let kept = lent == *given && slices == Slices::small();
     refused(reply, kept, "offer", given, tally);
+}
+
+/// Request C-14: number 1 at place 0, also for the empty list.
+fn set(given: &Record, octets: &[u8], tally: &mut Tally) {
+    let mut lent = given.clone();
+    let SetReply { place, number } = set_calls::patch_on(lent.arrays(), octets).own();
+    let reply = Reply {
+        number,
+        ..Reply::default()
+    };
+    tally.sets.lengths += 1;
+    let kept = place == 0 && lent == *given;
+    refused(reply, kept, "a set at place 0", given, tally);
 }
 
 fn refused(reply: Reply, kept: bool, what: &str, given: &Record, tally: &mut Tally) {

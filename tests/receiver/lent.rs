@@ -190,7 +190,7 @@ impl Record {
         *self == Record::of(record)
     }
 
-    fn arrays(&mut self) -> Arrays<'_> {
+    pub fn arrays(&mut self) -> Arrays<'_> {
         Arrays {
             channels: self.channels.slice(),
             meters: self.meters.slice(),

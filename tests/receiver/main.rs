@@ -1,12 +1,13 @@
 //! Compares the proved receiver, by value and in place, with the second one on
-//! generated streams, and the two ways with each other on records that a host
-//! changed.
+//! generated streams, on sets and on lists of messages and sets, and the two
+//! ways with each other on records that a host changed.
 //!
 //! usage: receiver_compare [COUNT]
 //!        receiver_compare --write OCTETS LISTING [COUNT [SEED]]
 //!        receiver_compare --list OCTETS
 //!
-//! The first form offers COUNT messages (200,000 if not given). The second
+//! The first form offers COUNT messages (200,000 if not given), and sets and
+//! messages around them in proportion. The second
 //! one writes about COUNT generated messages (5,000 if not given) end to end
 //! to the file OCTETS and what the listing program prints for them to the
 //! file LISTING. The third prints the other decoder's listing of a file.
@@ -15,11 +16,19 @@ mod broken;
 mod compare;
 mod forged;
 mod gathered;
+mod kept;
 mod lengths;
 mod messages;
+mod mixed;
 mod most;
+mod patched;
 mod record;
 mod section;
+mod set_calls;
+mod set_places;
+mod set_records;
+mod set_tally;
+mod sets;
 mod tally;
 
 // tests/before uses it too, and each a part of it.
@@ -41,6 +50,11 @@ const LONGEST: usize = 200;
 
 /// Changed records are offered after every so many streams.
 const BETWEEN: usize = 16;
+
+/// One list of messages and sets is offered for so many messages, and one more
+/// round of sets with the wrong message in each place.
+const LISTS: usize = 200;
+const ROUNDS: usize = 1_000_000;
 
 /// One of so many streams is offered once more, by a host that alters the
 /// assembly slice.
@@ -105,6 +119,8 @@ fn run(count: usize) -> bool {
             break;
         }
     }
+    set_places::compare(1 + count / ROUNDS, &mut tally);
+    mixed::compare(count.div_ceil(LISTS), &mut tally);
     tally.finish()
 }
 
@@ -114,6 +130,7 @@ fn changed(record: &calls::Receiver, tally: &mut Tally) {
     forged::offer(record, tally);
     gathered::offer(record, tally);
     lengths::offer(record, tally);
+    set_records::gathered(record, tally);
 }
 
 /// Writes a stream and its listing.

@@ -1,5 +1,7 @@
 //! What was run, and what differed.
 
+use crate::set_tally::SetTally;
+
 /// How many differences are printed one by one.
 const PRINTED: u64 = 20;
 
@@ -18,6 +20,7 @@ pub struct Tally {
     pub looked_back: usize,
     /// Messages offered to records with other numbers of what is gathered.
     pub gathered: usize,
+    pub sets: SetTally,
     /// How often each number was given, starts not counted.
     numbers: [u64; 27],
     /// Numbers above 26.
@@ -44,9 +47,10 @@ impl Tally {
         same
     }
 
-    /// Prints the last line; true if nothing differed and every number from
-    /// 0 to 26 occurred.
+    /// Prints the last two lines; true if nothing differed, every number from
+    /// 0 to 26 occurred, and every number of a set.
     pub fn finish(&self) -> bool {
+        let sets = self.sets.finish();
         let numbers: Vec<String> = self
             .numbers
             .iter()
@@ -66,6 +70,6 @@ impl Tally {
             never,
             self.differed
         );
-        never == 0 && self.strange == 0 && self.differed == 0
+        sets && never == 0 && self.strange == 0 && self.differed == 0
     }
 }

@@ -40,7 +40,7 @@ firstOf-first : (ns : List ℕ) (behind : ℕ) → firstOf ns behind ≡ first (
 firstOf-first [] behind = refl
 firstOf-first (n ∷ ns) behind = ap (λ (k : ℕ). first n k) (firstOf-first ns behind) ∙ first-assoc n (firstOf ns 0) behind
 
-pub inOrder-own : (m : List ℕ) (assembly : ℕ) (b : Standing) (whole : ℕ) → inOrder m assembly b whole ≡ first (ownNumber m assembly b) whole
+inOrder-own : (m : List ℕ) (assembly : ℕ) (b : Standing) (whole : ℕ) → inOrder m assembly b whole ≡ first (ownNumber m assembly b) whole
 unfolding inOrder
 inOrder-own m assembly b whole =
     let v = governedIn m b in

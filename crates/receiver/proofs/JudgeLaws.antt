@@ -1,7 +1,7 @@
 -- Laws about judging a message: what governs it, and its number by the first check that refuses.
 use mathlib.Core.Path.{_≡_, refl, sym, ap, _∙_}
 use Prim.Native.Nat.{ℕ}
-use mathlib.Core.Bool.{Bool, true, false, cond, not, _&&_}
+use mathlib.Core.Bool.{Bool, true, false, not, _&&_}
 use mathlib.Core.List.{List}
 use native.Mathlib.Nat.{le-refl}
 use lib.Dec.{eqb, lit≤}

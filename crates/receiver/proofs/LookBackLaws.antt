@@ -1,5 +1,5 @@
 -- Laws about the look-back rule: a record that agrees with it before a message agrees with it after the message. What is gathered of a frame
--- is read off the record and the assembly slice together, so there the slice lent with the message has a part.
+-- is read off the record and the assembly slice together, so there the slice lent with the message has a part. Sets: CountedLaws.antt.
 use mathlib.Core.Path.{_≡_, refl, sym, ap, _∙_, subst, fun-ext}
 use Prim.Native.Nat.{ℕ}
 use mathlib.Core.Bool.{Bool, true, false, true≢false, cond, not, _&&_, _||_}
@@ -23,7 +23,7 @@ use Rattle.receiver.proofs.CheckLaws.{plus-zero, plus-assoc, sumsAfter-
 -- ---- one message
 
 -- what a message adds, it adds to what was worked out before
-sumsAfter-plus : (m : List ℕ) (n : ℕ) (v : Configuration) (w : Gathering) (s t : Sums)
+pub sumsAfter-plus : (m : List ℕ) (n : ℕ) (v : Configuration) (w : Gathering) (s t : Sums)
     → sumsAfter m n v w (plus s t) ≡ plus s (sumsAfter m n v w t)
 unfolding sumsAfter
 sumsAfter-plus m n v w s t = go (eqb n 0)
@@ -34,7 +34,7 @@ sumsAfter-plus m n v w s t = go (eqb n 0)
     go false = refl
 
 -- what looking back past one more message finds is what that message leaves
-channelsBy-next : (j : Judged) (js : List Judged) (c : ℕ)
+pub channelsBy-next : (j : Judged) (js : List Judged) (c : ℕ)
     → governingAfter (j .octets) (j .number) (channelsBy js) c ≡ channelsBy (j ∷ js) c
 unfolding lookback governingAfter
 channelsBy-next j js c = go (decides (j .octets) (j .number) && eqb c (channelOf (j .octets)))
@@ -119,18 +119,19 @@ module _ (s : Sums) (js : List Judged) (r : Receiver) (a : List ℕ) (agrees : A
                 sequel = w .sequel;
               }
 
+  -- so what stands before the next message is the rule's
+  pub standing-agrees : (a₁ : List ℕ) → (gatheringBy js .isOn ≡ true → a₁ ≡ a) → standingOf r a₁ ≡ standingBy s js
+  standing-agrees a₁ same i =
+      record {
+        channels = same-channels i;
+        gathering = gathering-agrees a₁ same i;
+        sums = agrees .meters i;
+      }
+
   module _ (m : List ℕ) (s₀ : Slices) (same : gatheringBy js .isOn ≡ true → s₀ .assembly ≡ a) where
     -- the number of a message is the rule's
     number-agrees : messageNumber r m s₀ ≡ numberOf m (lengths s₀) (standingBy s js)
-    number-agrees = rw (agrees .sound) (ap (numberOf m (lengths s₀)) standing-agrees)
-      where
-        standing-agrees : standingOf r (s₀ .assembly) ≡ standingBy s js
-        standing-agrees i =
-            record {
-              channels = same-channels i;
-              gathering = gathering-agrees (s₀ .assembly) same i;
-              sums = agrees .meters i;
-            }
+    number-agrees = rw (agrees .sound) (ap (numberOf m (lengths s₀)) (standing-agrees (s₀ .assembly) same))
 
     module _ (o : Outcome) (s₁ : Slices) (answered : Answered r m s₀ o s₁) where
       -- the rule's number

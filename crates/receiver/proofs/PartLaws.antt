@@ -1,9 +1,10 @@
 -- Laws of the part of a list from a place on.
 use Prim.Native.Nat.{ℕ, _+_, _<_, _≤_}
 use native.Mathlib.Omega.{arith}
-use mathlib.Core.List.{List}
+use native.Mathlib.Nat.{zero-add}
+use mathlib.Core.List.{List, _++_, append-nil}
 use mathlib.Core.Path.{_≡_, sym, _∙_}
-use lib.ListN.{length, getD, take, drop, length-drop}
+use lib.ListN.{length, getD, take, drop, length-drop, drop-of-length-le}
 use lib.Seq.{length-take-le, getD-take, getD-drop, ext-getD}
 
 module _ (n x : ℕ) (l : List ℕ) (fits : x + n ≤ length l) where
@@ -22,3 +23,7 @@ part-same n x l m fits e each =
     (λ k h.
     let below : k < n = rw (← length-part n x m room) h in
     getD-part n x m room k below ∙ each k below ∙ sym (getD-part n x l fits k below))
+
+-- octets copied over others, which are no more, leave none of these
+pub copied : (part l : List ℕ) → length l ≤ length part → take 0 l ++ part ++ drop (0 + length part) l ≡ part
+copied part l h = rw (zero-add (length part), drop-of-length-le l h) (append-nil part)

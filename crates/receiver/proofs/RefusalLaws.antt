@@ -8,11 +8,11 @@ use borrow.Author.Tests.{eqb-false}
 use Rattle.tags.specs.ChoiceLaws.{or-false-left, or-false-right}
 use Rattle.receiver.specs.Message.{typeOf, isLast}
 use Rattle.receiver.specs.Governing.{Configuration}
-use Rattle.receiver.specs.Slices.{Slices, slices, lengths}
+use Rattle.receiver.specs.Slices.{Slices, slices}
 use Rattle.receiver.specs.Chunk.{isFragment}
 use Rattle.receiver.specs.Checks.{governs, ownNumber}
 use Rattle.receiver.specs.Effects.{bareReply, replyOf, ofWhole, takes, assemblyAfter, slicesAfter, sumsAfter, governingAfter, gatheringAfter}
-use Rattle.receiver.specs.Record.{standingOf, channelsOf, sized, consistent}
+use Rattle.receiver.specs.Record.{standingOf, channelsOf, consistent}
 use Rattle.receiver.specs.Contract.{outcome, changes, AnsweredWith, Answered}
 use Rattle.receiver.specs.Steps.{Governed, ownNumberOf, taken}
 use Rattle.receiver.specs.declared.Receiver.{Receiver}
@@ -83,7 +83,6 @@ module _ (r : Receiver) (m : List ℕ) (s : Slices) where
         kept = λ q. refl;
       }
 
-  -- arrays of other lengths are no record
-  pub answered-unsized : sized r ≡ false → Answered r m s (outcome r (bareReply 1)) s
-  unfolding consistent
-  answered-unsized e = rw e (answered-refused 1 (and-false (isLast m)))
+  -- a record that check 1 refuses
+  pub answered-inconsistent : consistent r ≡ false → Answered r m s (outcome r (bareReply 1)) s
+  answered-inconsistent e = rw e (answered-refused 1 (and-false (isLast m)))

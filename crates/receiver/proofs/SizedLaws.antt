@@ -1,17 +1,19 @@
 -- Laws about the arrays of a record: their lengths, the meters one by one, and when a record is consistent.
 use mathlib.Core.Path.{_≡_, refl, sym}
 use Prim.Native.Nat.{ℕ, zero, suc, _<_}
-use mathlib.Core.Bool.{true, false}
+use mathlib.Core.Bool.{true, false, _&&_}
 use mathlib.Core.List.{List, [], _∷_}
 use native.Mathlib.Nat.{add-zero}
 use native.Mathlib.Omega.{arith}
 use lib.ListN.{length, getD, set}
 use lib.Seq.{ext-getD}
-use borrow.Author.Tests.{eq-eqb}
+use lib.Dec.{eqb}
+use borrow.Author.Tests.{eqb-true, eq-eqb}
+use Rattle.tags.specs.ChoiceLaws.{and-left, and-right}
 use Rattle.receiver.specs.Modes.{channelCount}
 use Rattle.receiver.specs.Slices.{lengths}
 use Rattle.receiver.specs.Meters.{Sums, sums, overLimit}
-use Rattle.receiver.specs.Record.{recordSize, meterCount, gatheredCount, sumsOf, consistentUpTo, consistent}
+use Rattle.receiver.specs.Record.{recordSize, meterCount, gatheredCount, sumsOf, consistentUpTo, sized, consistent}
 use Rattle.receiver.specs.Contract.{readingsOf}
 use Rattle.receiver.specs.Steps.{noCounts, risenFrom}
 use Rattle.receiver.specs.declared.Receiver.{Receiver}
@@ -24,6 +26,23 @@ pub record Sized (r : Receiver) : Type 0 where
   pub channels : length (r .channels) ≡ recordSize
   pub meters : length (r .meters) ≡ meterCount
   pub gathered : length (r .gathered) ≡ gatheredCount
+
+pub sized-each : (r : Receiver) → sized r ≡ true → Sized r
+sized-each r all =
+    let l = r .channels in
+    let q = r .meters in
+    let g = r .gathered in
+    let two = and-right (eqb (length l) recordSize) (eqb (length q) meterCount && eqb (length g) gatheredCount) all in
+    record {
+      channels = eqb-true (length l) recordSize (and-left (eqb (length l) recordSize) (eqb (length q) meterCount && eqb (length g) gatheredCount) all);
+      meters = eqb-true (length q) meterCount (and-left (eqb (length q) meterCount) (eqb (length g) gatheredCount) two);
+      gathered = eqb-true (length g) gatheredCount (and-right (eqb (length q) meterCount) (eqb (length g) gatheredCount) two);
+    }
+
+-- those of a consistent record are
+pub consistent-sized : (r : Receiver) → consistent r ≡ true → Sized r
+unfolding consistent
+consistent-sized r good = sized-each r (and-left (sized r) _ good)
 
 -- three meters are known one by one
 pub three-meters : (l : List ℕ) → length l ≡ meterCount → (getD l 0 0 ∷ getD l 1 0 ∷ getD l 2 0 ∷ []) ≡ l

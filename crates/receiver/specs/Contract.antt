@@ -13,12 +13,15 @@ use Rattle.receiver.specs.Gathering.{noGathering}
 use Rattle.receiver.specs.Meters.{Sums, sums, overLimit}
 use Rattle.receiver.specs.Checks.{governs, numberOf}
 use Rattle.receiver.specs.Effects.{bareReply, replyOf, ofWhole, slicesAfter, sumsAfter, governingAfter, gatheringAfter}
+use Rattle.receiver.specs.Sets.{setReply, repliedTo, standingBySet}
 use Rattle.receiver.specs.LookBack.{startingSums}
 use Rattle.receiver.specs.Record.{channelsOf, sumsOf, gatheringOf, standingOf, sized, consistent}
 use Rattle.receiver.specs.declared.Receiver.{Receiver}
 use Rattle.receiver.specs.declared.Outcome.{Outcome}
 use Rattle.receiver.specs.declared.Reply.{Reply}
 use Rattle.receiver.specs.declared.Readings.{Readings}
+use Rattle.receiver.specs.declared.SetReply.{SetReply}
+use Rattle.receiver.specs.declared.SetOutcome.{SetOutcome}
 
 -- A call in place leaves the next receiver where the host lent the one before, and hands back the reply: both together are its outcome.
 abbrev pub outcome : Receiver → Reply → Outcome
@@ -75,3 +78,20 @@ pub record AnsweredWith (n : ℕ) (r : Receiver) (m : List ℕ) (s₀ : Slices) 
 -- the answer to message m, lent the slices s₀: that with its number
 abbrev pub Answered : Receiver → List ℕ → Slices → Outcome → Slices → Type 0
 Answered r m s₀ o s₁ = AnsweredWith (messageNumber r m s₀) r m s₀ o s₁
+
+-- ---- a set (document 02, C-14)
+
+abbrev pub setOutcome : Receiver → SetReply → SetOutcome
+setOutcome r reply = record { receiver = r; reply = reply }
+
+-- its reply: "Check 1 comes first, at place 0", and before the empty list too
+abbrev pub setAnswer : Receiver → List ℕ → List ℕ → SetReply
+setAnswer r octets a = cond (consistent r) (repliedTo octets (standingOf r a)) (setReply 0 1)
+
+-- The set in these octets offered to record r: the reply, and the next receiver as far as later calls show it, whatever assembly slice a is
+-- lent with them, for a set is lent none. Where all are accepted it shows what the last one left; "On refusal the record is as before".
+pub record Patched (r : Receiver) (octets : List ℕ) (o : SetOutcome) : Type 0 where
+  pub reply : (a : List ℕ) → o .reply ≡ setAnswer r octets a
+  pub standing : (a : List ℕ) → standingOf (o .receiver) a ≡ cond (consistent r) (standingBySet octets (standingOf r a)) (standingOf r a)
+  pub sound : consistent (o .receiver) ≡ consistent r
+  pub kept : eqb (o .reply .number) 0 ≡ false → o .receiver ≡ r

@@ -87,7 +87,7 @@ orderTable =
     ∷ row (whileHeld (asking 1 0 (0 ∷ [])) ∷ map (λ n. whileHeld (asking 1 1 (replicate n 0))) (0 ∷ 3 ∷ 4 ∷ [])) (18 ∷ 18 ∷ 18 ∷ 15 ∷ [])
     ∷ row (each (0x01 ∷ 0x11 ∷ 0x21 ∷ 0x31 ∷ []) (λ cfl. map (λ flags. whileHeld (routing 1 1 cfl 0 1 drawingTags (dark flags))) (0x00 ∷ 0x10 ∷ 0x20 ∷ 0x30 ∷ [])))
     (15 ∷ 19 ∷ 19 ∷ 19 ∷ 19 ∷ 15 ∷ 19 ∷ 19 ∷ 19 ∷ 19 ∷ 15 ∷ 19 ∷ 19 ∷ 19 ∷ 19 ∷ 15 ∷ [])
-    -- the same with Close; a Void chunk without data is asked for none of 17 to 19
+    -- the same with Close; a Void chunk without data passes 17 and 18 and skips 19
     ∷ row (map (λ (chunk : List ℕ). whileHeld (routing 1 1 3 0 1 drawingTags chunk)) ([] ∷ dark 0x10 ∷ dark 0 ∷ [])) (18 ∷ 19 ∷ 15 ∷ [])
     ∷ row (whileHeld (routing 1 2 3 0 1 drawingTags (dark 0)) ∷ whileHeld (waves 1) ∷ []) (17 ∷ 15 ∷ [])
     -- without Routing 15 is not asked, whatever stands where a routing has its mode

@@ -8,11 +8,12 @@ pub mod LitPointsLaws
 pub mod Meters
 pub mod Checks
 pub mod Effects
+pub mod Stream
+pub mod Sets
 pub mod LookBack
 pub mod Record
 pub mod Contract
 pub mod Section
-pub mod Stream
 pub mod StreamLaws
 pub mod Header
 pub mod Steps
@@ -22,3 +23,4 @@ pub mod Pins
 pub mod HistoryPins
 pub mod FragmentPins
 pub mod WholePins
+pub mod SetPins

@@ -5,16 +5,18 @@ use mathlib.Core.Bool.{Bool, true, false, cond, not, _&&_, _||_}
 use mathlib.Core.List.{List, [], _∷_}
 use lib.ListN.{getD, set, replicate}
 use lib.Dec.{eqb}
-use Rattle.tags.specs.Choice.{first}
+use Rattle.tags.specs.Choice.{refuse, first}
 use Rattle.tags.specs.Kept.{octetsPut}
-use Rattle.receiver.specs.Message.{channelOf, typeOf, isLast, closes, dataOf}
+use Rattle.receiver.specs.Message.{topBit, channelOf, typeOf, isLast, closes, dataOf}
 use Rattle.receiver.specs.Governing.{Configuration, routedTo, meant}
 use Rattle.receiver.specs.Slices.{Slices, lengths}
 use Rattle.receiver.specs.Chunk.{Chunk, chunk, chunkOf, isFragment, pointsOf, litPointsOf, levelsOf}
 use Rattle.receiver.specs.Gathering.{Gathering, placeIn, endIn, grown, completes}
 use Rattle.receiver.specs.Meters.{Sums, addedBy}
-use Rattle.receiver.specs.Checks.{headerNumber, routingNumber, routeNumber, governs, ownNumber, wholeNumber}
+use Rattle.receiver.specs.Checks.{wrongLength, headerNumber, routingNumber, routeNumber, governs, ownNumber, wholeNumber}
 use Rattle.receiver.specs.Effects.{drawn, takes, drops}
+use Rattle.receiver.specs.Stream.{partsIn}
+use Rattle.receiver.specs.Sets.{memberNumber, standingAfter, repliedTo, standingBehind}
 use Rattle.receiver.specs.Record.{recordIn, matchPlace, sizePlace, coloursPlace, areaPlace, recordSize, openState, modeIn, configurationOf, channelsOf, gatheringIn, standingOf, consistentAt, consistent}
 use Rattle.receiver.specs.declared.Config.{Config}
 use Rattle.receiver.specs.declared.Receiver.{Receiver}
@@ -23,6 +25,7 @@ use Rattle.receiver.specs.declared.route.Found.{Found}
 use Rattle.receiver.specs.declared.gather.Gathered.{Gathered}
 use Rattle.receiver.specs.declared.draw.Counts.{Counts}
 use Rattle.receiver.specs.declared.draw.Done.{Done}
+use Rattle.receiver.specs.declared.SetReply.{SetReply}
 
 -- ---- the meters as an array
 
@@ -155,3 +158,25 @@ settledIn n routing closing c k area channels =
 -- the meters after it, from what they were
 abbrev pub risenFrom : Readings → Counts → List ℕ
 risenFrom q d = (q .«lit_time» + d .«lit_time») ∷ (q .points + d .points) ∷ (q .«lit_points» + d .«lit_points») ∷ []
+
+-- ---- a set (document 02, C-14)
+
+-- the number of a message that is not of type 0x00
+abbrev pub foreignNumber : List ℕ → ℕ
+foreignNumber m = first (refuse (wrongLength m) 2) (first (refuse (eqb (topBit m) 0) 3) 4)
+
+-- Message m of a set offered to record r, which is left as r₁: its number, and what an accepted one leaves; the meters stay.
+pub record MemberOf (r : Receiver) (m : List ℕ) (n : ℕ) (r₁ : Receiver) : Type 0 where
+  pub number : (a : List ℕ) → n ≡ memberNumber m (standingOf r a)
+  pub standing : n ≡ 0 → (a : List ℕ) → standingOf r₁ a ≡ standingAfter m (standingOf r a)
+  pub sound : consistent r₁ ≡ true
+  pub meters : r₁ .meters ≡ r .meters
+
+-- All messages of a set offered to record r: the reply; after an acceptance what the last one leaves, and after a refusal the channels that
+-- are given and what was gathered; the meters stay.
+pub record SetOffered (r : Receiver) (octets : List ℕ) (reply : SetReply) (before : List ℕ) (r₁ : Receiver) : Type 0 where
+  pub answer : (a : List ℕ) → reply ≡ repliedTo octets (standingOf r a)
+  pub standing : eqb (reply .number) 0 ≡ true → (a : List ℕ) → standingOf r₁ a ≡ standingBehind (standingOf r a) (partsIn octets)
+  pub sound : eqb (reply .number) 0 ≡ true → consistent r₁ ≡ true
+  pub refused : eqb (reply .number) 0 ≡ false → (r₁ .channels ≡ before) × (r₁ .gathered ≡ r .gathered)
+  pub meters : r₁ .meters ≡ r .meters

@@ -2,7 +2,7 @@
 -- starts where the one before ended.
 use Prim.Native.Nat.{ℕ, zero, suc}
 use mathlib.Core.Bool.{Bool, cond, _||_}
-use mathlib.Core.List.{List, [], _∷_}
+use mathlib.Core.List.{List, [], _∷_, _++_}
 use lib.ListN.{length, take, drop}
 use lib.Dec.{ltb, eqb}
 use Rattle.receiver.specs.Message.{totalSize}
@@ -27,3 +27,14 @@ messagesIn (suc most) m =
 unfoldable pub leftIn : ℕ → List ℕ → List ℕ
 leftIn zero m = m
 leftIn (suc most) m = cond (eqb (entryOf m) 0) m (leftIn most (drop (entryOf m) m))
+
+-- C-14: what a list in one slice is taken apart into: its messages, and what is left after them, if anything, as one more. What is left is
+-- never as long as it claims, or it is below 8 octets, so that check 2 refuses it (proofs/SetLaws.antt: left-refused).
+unfoldable pub partsIn : List ℕ → List (List ℕ)
+partsIn octets =
+    let left = leftIn (length octets) octets in
+    messagesIn (length octets) octets ++ cond (eqb (length left) 0) [] (left ∷ [])
+
+-- how many octets the part at the front has
+abbrev pub partOf : List ℕ → ℕ
+partOf octets = cond (eqb (entryOf octets) 0) (length octets) (entryOf octets)

@@ -2,17 +2,17 @@
 -- program that reads bit by bit takes the same messages as one that has read all.
 use Prim.Native.Nat.{ℕ, zero, suc, _+_, _<_, _≤_}
 use native.Mathlib.Omega.{arith}
-use native.Mathlib.Nat.{zero-add, suc-add}
-use mathlib.Core.Path.{_≡_, refl, _∙_}
+use native.Mathlib.Nat.{zero-add, suc-add, le-refl}
+use mathlib.Core.Path.{_≡_, refl, ap, _∙_}
 use mathlib.Core.Bool.{Bool, true, false, cond, _||_, true≢false}
 use mathlib.Core.List.{List, [], _∷_, _++_, append-assoc}
-use lib.ListN.{length, getD, take, drop, length-append, take-append-drop, List·getD-append}
-use lib.Seq.{take-append-le, drop-append-le}
-use lib.Dec.{ltb, eqb}
-use borrow.Author.Tests.{ltb-false, le-ltb, eqb-false, ne-eqb}
+use lib.ListN.{length, getD, take, drop, length-append, length-drop, take-append-drop, List·getD-append}
+use lib.Seq.{take-append-le, drop-append-le, take-length, drop-length}
+use lib.Dec.{ltb, eqb, eqb·suc-zero}
+use borrow.Author.Tests.{ltb-false, le-ltb, eqb-true, eqb-false, ne-eqb}
 use Rattle.receiver.specs.Message.{totalSize}
 use Rattle.receiver.specs.Checks.{leastMessage}
-use Rattle.receiver.specs.Stream.{isCut, entryOf, messagesIn, leftIn}
+use Rattle.receiver.specs.Stream.{isCut, entryOf, messagesIn, leftIn, partsIn, partOf}
 
 -- the size is claimed by the first two octets
 size-more : (m more : List ℕ) → 2 ≤ length m → totalSize (m ++ more) ≡ totalSize m
@@ -129,3 +129,82 @@ messages-all (suc k) m = by-entry (eqb (entryOf m) 0) (messages-all k (drop (ent
     by-entry : (b : Bool) → joined (messagesIn k (drop (entryOf m) m)) ++ leftIn k (drop (entryOf m) m) ≡ drop (entryOf m) m → joined (cond b [] (take (entryOf m) m ∷ messagesIn k (drop (entryOf m) m))) ++ cond b m (leftIn k (drop (entryOf m) m)) ≡ m
     by-entry true later = refl
     by-entry false later = rw (append-assoc, later) (take-append-drop (entryOf m) m)
+
+-- ---- C-14: a list in one slice, part by part
+
+-- where octets are too few for what is left of the bound, the bound does not count
+pub messages-enough : (k n : ℕ) (m : List ℕ) → length m ≤ k → length m ≤ n → messagesIn k m ≡ messagesIn n m
+unfolding messagesIn entryOf
+messages-enough zero zero m h g = refl
+messages-enough zero (suc n) [] h g = refl
+messages-enough zero (suc n) (x ∷ m) h g = absurd (omega (arith, h))
+messages-enough (suc k) zero [] h g = refl
+messages-enough (suc k) zero (x ∷ m) h g = absurd (omega (arith, g))
+messages-enough (suc k) (suc n) m h g = by-entry (eqb (entryOf m) 0) refl (messages-enough k n (drop (entryOf m) m))
+  where
+    by-entry : (b : Bool) → eqb (entryOf m) 0 ≡ b
+        → (length (drop (entryOf m) m) ≤ k → length (drop (entryOf m) m) ≤ n → messagesIn k (drop (entryOf m) m) ≡ messagesIn n (drop (entryOf m) m))
+        → cond b [] (take (entryOf m) m ∷ messagesIn k (drop (entryOf m) m)) ≡ cond b [] (take (entryOf m) m ∷ messagesIn n (drop (entryOf m) m))
+    by-entry true e later = refl
+    by-entry false e later =
+        let some = eqb-false (entryOf m) 0 e in
+        let less : (j : ℕ) → length m ≤ suc j → length (drop (entryOf m) m) ≤ j = λ j q. rw length-drop (omega (arith, some, q)) in
+        ap (λ (ms : List (List ℕ)). take (entryOf m) m ∷ ms) (later (less k h) (less n g))
+
+pub left-enough : (k n : ℕ) (m : List ℕ) → length m ≤ k → length m ≤ n → leftIn k m ≡ leftIn n m
+unfolding leftIn entryOf
+left-enough zero zero m h g = refl
+left-enough zero (suc n) [] h g = refl
+left-enough zero (suc n) (x ∷ m) h g = absurd (omega (arith, h))
+left-enough (suc k) zero [] h g = refl
+left-enough (suc k) zero (x ∷ m) h g = absurd (omega (arith, g))
+left-enough (suc k) (suc n) m h g = by-entry (eqb (entryOf m) 0) refl (left-enough k n (drop (entryOf m) m))
+  where
+    by-entry : (b : Bool) → eqb (entryOf m) 0 ≡ b
+        → (length (drop (entryOf m) m) ≤ k → length (drop (entryOf m) m) ≤ n → leftIn k (drop (entryOf m) m) ≡ leftIn n (drop (entryOf m) m))
+        → cond b m (leftIn k (drop (entryOf m) m)) ≡ cond b m (leftIn n (drop (entryOf m) m))
+    by-entry true e later = refl
+    by-entry false e later =
+        let some = eqb-false (entryOf m) 0 e in
+        let less : (j : ℕ) → length m ≤ suc j → length (drop (entryOf m) m) ≤ j = λ j q. rw length-drop (omega (arith, some, q)) in
+        later (less k h) (less n g)
+
+-- what is left is cut, or nothing
+pub left-cut : (k : ℕ) (m : List ℕ) → length m ≤ k → entryOf (leftIn k m) ≡ 0
+unfolding leftIn entryOf
+left-cut zero [] h = refl
+left-cut zero (x ∷ m) h = absurd (omega (arith, h))
+left-cut (suc k) m h = by-entry (eqb (entryOf m) 0) refl (left-cut k (drop (entryOf m) m))
+  where
+    by-entry : (b : Bool) → eqb (entryOf m) 0 ≡ b → (length (drop (entryOf m) m) ≤ k → entryOf (leftIn k (drop (entryOf m) m)) ≡ 0)
+        → entryOf (cond b m (leftIn k (drop (entryOf m) m))) ≡ 0
+    by-entry true e later = eqb-true (entryOf m) 0 e
+    by-entry false e later = let some = eqb-false (entryOf m) 0 e in later (rw length-drop (omega (arith, some, h)))
+
+-- no octets, no parts
+pub parts-none : partsIn [] ≡ []
+unfolding partsIn messagesIn leftIn
+parts-none = refl
+
+-- and else the part at the front, and those of the rest
+pub parts-next : (octets : List ℕ) → 0 < length octets
+    → partsIn octets ≡ take (partOf octets) octets ∷ partsIn (drop (partOf octets) octets)
+unfolding partsIn messagesIn leftIn
+parts-next [] some = absurd (omega (arith, some))
+parts-next (x ∷ l) some = by-entry (eqb (entryOf m) 0) refl
+  where
+    m : List ℕ
+    m = x ∷ l
+
+    parts : List (List ℕ) → List ℕ → List (List ℕ)
+    parts ms left = ms ++ cond (eqb (length left) 0) [] (left ∷ [])
+
+    by-entry : (b : Bool) → eqb (entryOf m) 0 ≡ b
+        → parts (cond b [] (take (entryOf m) m ∷ messagesIn (length l) (drop (entryOf m) m))) (cond b m (leftIn (length l) (drop (entryOf m) m)))
+        ≡ take (cond b (length m) (entryOf m)) m ∷ partsIn (drop (cond b (length m) (entryOf m)) m)
+    by-entry true e = rw (take-length m, drop-length m, parts-none, eqb·suc-zero (length l)) refl
+    by-entry false e =
+        let some = eqb-false (entryOf m) 0 e in
+        let d = drop (entryOf m) m in
+        let less : length d ≤ length l = rw length-drop (omega (arith, some)) in
+        rw (messages-enough (length l) (length d) d less (le-refl (length d)), left-enough (length l) (length d) d less (le-refl (length d))) refl

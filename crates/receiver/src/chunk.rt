@@ -22,7 +22,7 @@ ghost use Rattle.receiver.specs.Checks.{wrongData, mostOctets, matchNumb
 ghost use Rattle.receiver.specs.Record.{configurationOf};
 
 // The types of a chunk.
-const VOID: u8 = 0x00;
+pub(crate) const VOID: u8 = 0x00;
 
 const WAVE: u8 = 0x01;
 

@@ -11,6 +11,7 @@ ghost use lib.ListN.{length, getD};
 ghost use Rattle.receiver.specs.Header.{headerOf};
 ghost use Rattle.receiver.specs.Message.{totalSize, configured, dataStart, dataOf};
 ghost use Rattle.receiver.specs.Checks.{headerNumber, wrongLength};
+ghost use Rattle.receiver.specs.Steps.{foreignNumber};
 
 // The least and the largest length of a message.
 pub(crate) const LEAST: usize = 8;
@@ -123,6 +124,21 @@ pub(crate) fn wrong_length(m: &[u8]) -> bool
     let n = m.len();
     let size = total_size(m);
     (n < LEAST) | (LARGEST < n) | (n != size)
+}
+
+// Checks 2 and 3 of a message of another type than a set has, and else 4 (C-14).
+pub(crate) fn foreign_number(m: &[u8]) -> u8
+    ensures { λ r. ⌜ r ≡ foreignNumber (now (m .entry)) ⌝ }
+{
+    let wrong = wrong_length(m);
+    if wrong {
+        return 2;
+    }
+    let top_clear = octet(m, 2) / 128 == 0;
+    if top_clear {
+        return 3;
+    }
+    4
 }
 
 // Checks 2 to 5: the number that refuses the length or the header of the message, or 0.

@@ -3,11 +3,12 @@
 use super::Outcome;
 use super::Readings;
 use super::Receiver;
+use super::SetOutcome;
 use super::section;
 ghost use mathlib.Core.Path.{_≡_};
 ghost use Rattle.receiver.specs.Slices.{slices};
 ghost use Rattle.receiver.specs.Meters.{sums};
-ghost use Rattle.receiver.specs.Contract.{Started, Answered, readingsOf};
+ghost use Rattle.receiver.specs.Contract.{Started, Answered, Patched, readingsOf};
 ghost use Rattle.receiver.specs.Section.{spanOf};
 
 // Where the data section stands in a message: its first octet and its length. A part of a slice cannot be returned to C.
@@ -35,6 +36,13 @@ pub extern "C" fn mewkoast_message(
     ensures { λ o. ⌜ Answered receiver (now (octets .entry)) (slices (now (rows .entry)) (now (levels .entry)) (now (assembly .entry))) o (slices (now (rows .exit)) (now (levels .exit)) (now (assembly .exit))) ⌝ }
 {
     receiver.message(octets, rows, levels, assembly)
+}
+
+#[no_mangle]
+pub extern "C" fn mewkoast_patch(receiver: Receiver, octets: &[u8]) -> SetOutcome
+    ensures { λ o. ⌜ Patched receiver (now (octets .entry)) o ⌝ }
+{
+    receiver.patch(octets)
 }
 
 #[no_mangle]

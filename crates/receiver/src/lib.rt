@@ -11,6 +11,7 @@ pub mod place;
 mod record;
 mod route;
 pub mod section;
+mod sets;
 pub mod stream;
 
 use record::GATHERED;
@@ -61,6 +62,21 @@ pub struct Receiver {
 pub struct Outcome {
     pub receiver: Receiver,
     pub reply: Reply,
+}
+
+// What the call of a set answers (C-14): the place of the first refused message, counted from 0, and its number; or how many there were and
+// 0.
+#[repr(C)]
+pub struct SetReply {
+    pub place: usize,
+    pub number: u8,
+}
+
+// What that call hands back: the next receiver beside the reply.
+#[repr(C)]
+pub struct SetOutcome {
+    pub receiver: Receiver,
+    pub reply: SetReply,
 }
 
 // The three meters as they stand: lit microseconds, points, lit points.

@@ -32,14 +32,13 @@ use super::record::bare_reply;
 use super::record::held_elsewhere;
 use super::record::readings_of;
 use super::record::set_meters;
-use super::record::sound;
 use super::route::Found;
 use super::route::none_found;
 use super::route::route;
 use tags::kept::AREA;
 use tags::kept::space_in;
 ghost use mathlib.Core.Path.{_≡_};
-ghost use mathlib.Core.Bool.{false, cond, _&&_};
+ghost use mathlib.Core.Bool.{true, false, cond, _&&_};
 ghost use mathlib.Core.List.{List};
 ghost use Prim.Native.Nat.{ℕ, _+_, _<_, _≤_, _^_};
 ghost use lib.ListN.{length, take, drop};
@@ -51,30 +50,22 @@ ghost use Rattle.receiver.specs.Meters.{overLimit};
 ghost use Rattle.receiver.specs.Checks.{mostOctets, headerNumber};
 ghost use Rattle.receiver.specs.Header.{headerOf};
 ghost use Rattle.receiver.specs.Effects.{replyOf};
-ghost use Rattle.receiver.specs.Record.{recordSize, meterCount, recordIn, configurationOf};
+ghost use Rattle.receiver.specs.Record.{recordSize, meterCount, recordIn, configurationOf, consistent};
 ghost use Rattle.receiver.specs.Contract.{outcome, sumsIn, Answered};
 ghost use Rattle.receiver.specs.Steps.{countsWith, wholeIn, Concluded, risenFrom, shownBy, Governed, ownNumberOf, heldStates};
+ghost use Rattle.receiver.specs.declared.Readings.{Readings};
 ghost use Rattle.receiver.specs.declared.gather.Gathered.{Gathered};
 
 // ---- judging
 
-// Checks 1 to 14, and what governs the message: what it brings itself, or what its channel holds, with its area.
-pub(crate) fn governing(
-    channels: &[u8],
-    meters: Readings,
-    m: &[u8],
-    h: Header,
-    area: &mut [u8; AREA],
-) -> Found
+// Checks 2 to 14, on a record that check 1 passes, and what governs the message: what it brings itself, or what its channel holds, with its
+// area.
+pub(crate) fn governing(channels: &[u8], m: &[u8], h: Header, area: &mut [u8; AREA]) -> Found
     requires { ⌜ (length (now channels) ≡ recordSize) × (length (now area) ≡ areaSize) ⌝ }
     requires { ⌜ h ≡ headerOf (now m) ⌝ }
-    ensures { λ f. ⌜ ((q : Gathered) → Governed (shownBy (now (channels .entry)) meters q) (now (m .entry)) f (now (area .exit))) ⌝ }
+    ensures { λ f. ⌜ ((meters : Readings) (q : Gathered) → consistent (shownBy (now (channels .entry)) meters q) ≡ true → Governed (shownBy (now (channels .entry)) meters q) (now (m .entry)) f (now (area .exit))) ⌝ }
     ensures { λ f. ⌜ length (now (area .exit)) ≡ areaSize ⌝ }
 {
-    let good = sound(channels, meters);
-    if !good {
-        return none_found(1);
-    }
     let header = header_number(m, h);
     let malformed = header != 0;
     if malformed {

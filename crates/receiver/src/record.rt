@@ -20,7 +20,7 @@ ghost use Rattle.receiver.specs.Effects.{bareReply};
 ghost use Rattle.receiver.specs.Modes.{channelCount};
 ghost use Rattle.receiver.specs.LookBack.{startingSums};
 ghost use Rattle.receiver.specs.Contract.{startNumber, Started, readingsOf, sumsIn};
-ghost use Rattle.receiver.specs.Record.{recordSize, meterCount, recordIn, sized, consistentAt, consistentUpTo};
+ghost use Rattle.receiver.specs.Record.{recordSize, meterCount, recordIn, sized, consistentAt, consistentUpTo, consistent};
 ghost use Rattle.receiver.specs.Steps.{metersBy, fresh, heldStates};
 
 // The octets and the meters of a record.
@@ -63,7 +63,7 @@ fn sound_channels(channels: &[u8]) -> bool
 }
 
 // Check 1, on a record whose arrays have their lengths.
-pub(crate) fn sound(channels: &[u8], meters: Readings) -> bool
+fn sound(channels: &[u8], meters: Readings) -> bool
     requires { ⌜ length (now channels) ≡ recordSize ⌝ }
     ensures { λ r. ⌜ r ≡ (not (overLimit (sumsIn meters)) && consistentUpTo (now (channels .entry)) channelCount) ⌝ }
 {
@@ -152,6 +152,17 @@ pub(crate) fn is_record(channels: &[u8], meters: &[u64], gathered: &[u32]) -> bo
     ensures { λ r. ⌜ r ≡ sized (recordIn (now (channels .entry)) (now (meters .entry)) (now (gathered .entry))) ⌝ }
 {
     (channels.len() == RECORD) & ((meters.len() == METERS) & (gathered.len() == GATHERED))
+}
+
+// Check 1, on arrays that are lent.
+pub(crate) fn is_consistent(channels: &[u8], meters: &[u64], gathered: &[u32]) -> bool
+    ensures { λ r. ⌜ r ≡ consistent (recordIn (now (channels .entry)) (now (meters .entry)) (now (gathered .entry))) ⌝ }
+{
+    let whole = is_record(channels, meters, gathered);
+    if !whole {
+        return false;
+    }
+    sound(channels, readings_of(meters[0], meters[1], meters[2]))
 }
 
 // The meters of a record that is lent.
