@@ -3,7 +3,7 @@
  *
  * Sections: 1 refusal numbers of the tag layer, 2 the dictionary check,
  * 3 samples to rows, 4 dimmer levels, 5 the receiver with all 26 numbers.
- * Checks and limits are those of document 01 and of the requests C-11 to C-14;
+ * Checks and limits are those of document 01 and of the requests C-11 to C-15;
  * messages and tags are those of IDN-Stream, Revision 001.
  *
  * For x86-64 Linux. Link target/staticlib/libreceiver.a (`rt staticlib
@@ -25,7 +25,7 @@
 #include <stddef.h>
 #include <stdint.h>
 
-#define MEWKOAST_VERSION "0.9.0"
+#define MEWKOAST_VERSION "0.10.0"
 
 #ifdef __cplusplus
 extern "C" {

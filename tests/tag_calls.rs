@@ -28,7 +28,7 @@ impl SampleLayout {
 
 /// mewkoast_checked_dictionary.
 #[repr(C)]
-#[derive(Clone, Copy)]
+#[derive(Clone, Copy, PartialEq, Eq)]
 pub struct CheckedDictionary {
     pub number: u8,
     pub layout: SampleLayout,
@@ -82,11 +82,16 @@ extern "C" {
     ) -> usize;
 }
 
+/// Where the code of `layout` stands, to tell it from that of another archive.
+pub fn layout_address() -> *const () {
+    mewkoast_layout as *const ()
+}
+
 // SAFETY, of each call below: the pointers and lengths are those of slices,
 // and a slice that is written is borrowed alone.
 
-pub fn layout(mode: u8, tags: &[u8]) -> CheckedDictionary {
-    unsafe { mewkoast_layout(mode.into(), tags.as_ptr(), tags.len()) }
+pub fn layout(mode: u32, tags: &[u8]) -> CheckedDictionary {
+    unsafe { mewkoast_layout(mode, tags.as_ptr(), tags.len()) }
 }
 
 pub fn draw(layout: SampleLayout, octets: &[u8], rows: &mut [i32]) -> usize {

@@ -2,6 +2,7 @@
 
 use crate::builds::Given;
 use crate::lent::Lent;
+use crate::seen::named;
 use decoder::message::SEQUEL;
 use decoder::receiver::Reply;
 
@@ -93,12 +94,6 @@ fn of_reply(old: &Reply, new: &Reply) -> Vec<&'static str> {
         ("lit_points", old.lit_points != new.lit_points),
         ("levels", old.levels != new.levels),
     ])
-}
-
-/// The names with which something differs.
-fn named<const N: usize>(compared: [(&'static str, bool); N]) -> Vec<&'static str> {
-    let different = compared.into_iter().filter(|(_, differs)| *differs);
-    different.map(|(name, _)| name).collect()
 }
 
 /// Document 01, "One message": octet 3 is the type, CCLF is in octet 2, and

@@ -12,6 +12,7 @@
 mod builds;
 mod earlier;
 mod kind;
+mod seen;
 mod table;
 
 #[path = "../calls.rs"]

@@ -1,20 +1,15 @@
-//! How often each kind of difference was seen, and where first.
+//! What was alike, and in what kinds the rest differs.
 
 use crate::builds::Ways;
 use crate::kind::Kind;
-use std::collections::BTreeMap;
+use crate::seen::Kinds;
 
 /// A kind, and the way of calling in which it was seen.
 type Row = (Kind, &'static str);
 
-struct Seen {
-    count: u64,
-    first: String,
-}
-
 #[derive(Default)]
 pub struct Table {
-    rows: BTreeMap<Row, Seen>,
+    rows: Kinds<Row>,
     pub messages: usize,
     starts: usize,
     /// Messages that both accepted, or both refused, without a difference.
@@ -59,26 +54,21 @@ impl Table {
             ]
         };
         for row in rows.into_iter().flatten() {
-            let seen = self.rows.entry(row).or_insert_with(|| Seen {
-                count: 0,
-                first: first(),
-            });
-            seen.count += 1;
+            self.rows.add(row, &first);
         }
         alike
     }
 
     /// The kinds, the most frequent first, then the totals.
     pub fn print(&self) {
-        let mut rows: Vec<(&Row, &Seen)> = self.rows.iter().collect();
-        rows.sort_by_key(|(_, seen)| std::cmp::Reverse(seen.count));
+        let rows = self.rows.sorted();
         if !rows.is_empty() {
             println!(
                 "{:>9}  {:8}  {:8}  {:15}  {:>10}  {:27}  what differs",
                 "count", "numbers", "way", "offered", "lit change", "first at"
             );
         }
-        for ((kind, way), seen) in rows {
+        for ((kind, way), seen) in &rows {
             let [before, now] = kind.numbers;
             println!(
                 "{:>9}  {:8}  {:8}  {:15}  {:>10}  {:27}  {}",
@@ -101,7 +91,7 @@ impl Table {
             self.messages - alike,
             self.starts,
             self.starts - self.starts_alike,
-            self.rows.len()
+            rows.len()
         );
     }
 }

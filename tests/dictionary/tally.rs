@@ -1,5 +1,6 @@
 //! Calls both sides and counts the answers.
 
+use crate::cases::shown;
 use decoder::dictionary::answer;
 use std::fmt::Write;
 
@@ -44,24 +45,12 @@ impl Tally {
         }
     }
 
-    /// Offers one dictionary in both graphic modes.
-    pub fn compare_modes(&mut self, tags: &[u8]) {
-        self.compare(1, tags);
-        self.compare(2, tags);
-    }
-
     #[cold]
     fn differ(&mut self, mode: u32, tags: &[u8], given: u32, expected: u32) {
         self.differed += 1;
         if self.differed <= PRINTED {
-            let mut text = String::new();
-            for pair in tags.chunks(2) {
-                text.push(' ');
-                for octet in pair {
-                    let _ = write!(text, "{octet:02X}");
-                }
-            }
-            println!("mode {mode} tags{text}: given {given}, expected {expected}");
+            let case = shown(mode, tags);
+            println!("{case}: given {given}, expected {expected}");
         }
     }
 

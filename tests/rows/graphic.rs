@@ -59,7 +59,7 @@ fn described(layout: &Layout) -> SampleLayout {
 /// Offers a dictionary to both sides; gives the layout if both accept it and
 /// describe it alike. Where it is refused the layout is all 0.
 pub fn compare_layout(tally: &mut Tally, mode: u8, tags: &[u8]) -> Option<Accepted> {
-    let given = calls::layout(mode, tags);
+    let given = calls::layout(u32::from(mode), tags);
     let expected = check(u32::from(mode), tags);
     let number = *expected.as_ref().err().unwrap_or(&0);
     let same = match &expected {

@@ -1,12 +1,12 @@
--- Laws for the functions of the dictionary walk: whether an octet has a role, with one octet more; arrays that hold 0 after what is used;
+-- Laws for the functions of the dictionary walk: whether an octet has a role; arrays that hold 0 after what is used;
 -- one word, and a refusal, which stays.
 use Prim.Native.Nat.{ℕ, zero, suc, _+_, _-_, _≤_, zero-le}
 use native.Mathlib.Nat.{add-zero, add-suc, sub-zero}
 use native.Mathlib.Numerals.{add-one}
 use native.Mathlib.Omega.{arith}
-use mathlib.Core.Bool.{Bool, true, false, cond, _||_, or-false, or-assoc}
-use mathlib.Core.List.{List, [], _∷_, _++_}
-use mathlib.Core.Path.{_≡_, refl, sym, ap, _∙_}
+use mathlib.Core.Bool.{Bool, true, false, cond, _||_}
+use mathlib.Core.List.{List, _∷_}
+use mathlib.Core.Path.{_≡_, refl, sym, _∙_}
 use lib.ListN.{length, replicate, length-replicate}
 use lib.Dec.{ltb, eqb, leb·zero, leb·suc-suc}
 use borrow.Author.Tests.{eq-eqb, ne-eqb}
@@ -19,23 +19,15 @@ use Rattle.tags.specs.DictionaryView.{Filled, wordNumber, pastTag, pastS
 use Rattle.tags.specs.declared.Layout.{Layout}
 use Rattle.tags.proofs.ArrayLaws.{length-used}
 
--- ---- roles with one octet more
+-- ---- whether an octet has a role: the first, or one after it
 
 place-test : (b : Bool) (n m : ℕ) → ltb (cond b 0 (suc n)) (suc m) ≡ (b || ltb n m)
 place-test true n m = leb·suc-suc 0 m ∙ leb·zero m
 place-test false n m = leb·suc-suc (suc n) m
 
-has-cons : (y : ℕ) (xs : List ℕ) (r : ℕ) → has (y ∷ xs) r ≡ (eqb y r || has xs r)
+pub has-cons : (y : ℕ) (xs : List ℕ) (r : ℕ) → has (y ∷ xs) r ≡ (eqb y r || has xs r)
 unfolding placeOf
 has-cons y xs r = place-test (eqb y r) (placeOf r xs) (length xs)
-
-pub has-more : (xs : List ℕ) (x r : ℕ) → has (xs ++ (x ∷ [])) r ≡ (has xs r || eqb x r)
-unfolding placeOf
-has-more [] x r = has-cons x [] r ∙ or-false (eqb x r)
-has-more (y ∷ xs) x r =
-    has-cons y (xs ++ (x ∷ [])) r ∙ ap (λ (b : Bool). eqb y r || b) (has-more xs x r)
-    ∙ sym (or-assoc (eqb y r) (has xs r) (eqb x r))
-    ∙ ap (λ (b : Bool). b || eqb x r) (sym (has-cons y xs r))
 
 -- ---- a layout whose arrays hold 0 after what is used is that of its sample
 

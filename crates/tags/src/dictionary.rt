@@ -7,6 +7,8 @@ use super::gather::Allowed;
 use super::gather::DictionaryWalk;
 use super::kept::no_layout;
 use super::limits::COLOUR_LIMIT;
+use super::limits::MOST_COLOURS;
+use super::limits::MOST_OCTETS;
 use super::limits::OCTET_LIMIT;
 use super::tag;
 ghost use mathlib.Core.Path.{_≡_};
@@ -64,8 +66,8 @@ fn repeated(w: u16, p: DictionaryWalk, roles: &[u8]) -> bool
     requires { ⌜ p .width ≤ length (now roles) ⌝ }
     ensures { λ r. ⌜ AnyWaves p (λ waves. r ≡ repeated w (sampleOf (gathered p (now (roles .entry)) waves))) ⌝ }
 {
-    (tag::takes_octet(w) & (OCTET_LIMIT <= p.width as usize))
-        | (tag::is_colour(w) & (COLOUR_LIMIT <= p.colours as usize))
+    (tag::takes_octet(w) & (MOST_OCTETS <= p.width))
+        | (tag::is_colour(w) & (MOST_COLOURS <= p.colours))
         | signal_again(w, roles, p.width)
         | hint_again(w, roles, p.width)
         | ((w / 256 == tag::SPACE) & !(p.space == 0))
@@ -109,7 +111,8 @@ fn word_number(mode: u8, left: usize, w: u16, p: DictionaryWalk, roles: &[u8]) -
     0
 }
 
-// The walk past word w, which passes.
+// The walk past word w, which passes. The fields that stay are named one by one: a record copied whole is carried in one wide register, out
+// of which each tag has to take the width.
 fn advance(w: u16, p: DictionaryWalk, roles: &mut [u8], waves: &mut [u16]) -> DictionaryWalk
     requires { ⌜ WalkFilled p (now roles) (now waves) ⌝ }
     requires { ⌜ (p .skip ≡ 0 → repeated w (sampleOf (gathered p (now roles) (now waves))) ≡ false) ⌝ }
@@ -129,9 +132,14 @@ fn advance(w: u16, p: DictionaryWalk, roles: &mut [u8], waves: &mut [u16]) -> Di
             space: gather::space_with(w, p.space),
         };
     }
-    let mut next = p;
-    next.skip = p.skip - 1;
-    next
+    let allowed = p.allowed;
+    DictionaryWalk {
+        skip: p.skip - 1,
+        allowed,
+        width: p.width,
+        colours: p.colours,
+        space: p.space,
+    }
 }
 
 // ---- the end

@@ -21,7 +21,8 @@ pub struct Allowed {
 }
 
 // The walk so far: how many words a Void still skips, what the tag before allows, and of the sample its octets, its colours and its space
-// modifier. The arrays of roles and wavelengths stand beside it, so that a tag writes one element and moves nothing.
+// modifier. The arrays of roles and wavelengths stand beside it, so that a tag writes one element and moves nothing. Places and numbers of
+// octets and colours are 8-bit numbers wherever the walk has them; only an index is wider.
 pub struct DictionaryWalk {
     pub skip: u16,
     pub allowed: Allowed,
@@ -67,19 +68,20 @@ pub fn nothing_read() -> DictionaryWalk
     }
 }
 
-// Whether one of the first `width` octets has the role.
+// Whether one of the first `width` octets has the role. It ends where one is found, since a compiler makes a plain loop of that, and several
+// of a search that always goes to the end.
 pub fn has_role(roles: &[u8], width: u8, role: u8) -> bool
     requires { ⌜ width ≤ length (now roles) ⌝ }
     ensures { λ r. ⌜ r ≡ has (take width (now (roles .entry))) role ⌝ }
 {
-    let n = width as usize;
-    let mut found = false;
-    let mut i: usize = 0;
-    while i < n {
-        found = found | (roles[i] == role);
+    let mut i: u8 = 0;
+    while i < width {
+        if roles[i as usize] == role {
+            return true;
+        }
         i += 1;
     }
-    found
+    false
 }
 
 // ---- a tag that passes
@@ -111,8 +113,7 @@ pub fn put_role(w: u16, role: u8, width: u8, roles: &mut [u8]) -> u8
 {
     let takes = tag::takes_octet(w);
     if takes {
-        let at = width as usize;
-        roles[at] = role;
+        roles[width as usize] = role;
         return width + 1;
     }
     width
@@ -127,8 +128,7 @@ pub fn put_wave(w: u16, colours: u8, waves: &mut [u16]) -> u8
 {
     let colour = tag::is_colour(w);
     if colour {
-        let at = colours as usize;
-        waves[at] = w % 1024;
+        waves[colours as usize] = w % 1024;
         return colours + 1;
     }
     colours

@@ -66,8 +66,9 @@ returns c =
 
 returns-2 : tie.Need-returns-2
 returns-2 c =
-    let s = c .before .before .before .before .before in
-    (rw (ne-eqb (s .args .p .skip) 0 (c .before .if1 .left)), s .pre .0)
+    let skipped = c .before .before in
+    let s = skipped .before .before .before .before in
+    (rw (ne-eqb (s .args .p .skip) 0 (skipped .if1 .left)), s .pre .0)
 
 pub advance-spec : {M : Type 1} → statement M
 advance-spec =
