@@ -3,7 +3,7 @@
  *
  * Sections: 1 refusal numbers of the tag layer, 2 the dictionary check,
  * 3 samples to rows, 4 dimmer levels, 5 the receiver with all 26 numbers.
- * Checks and limits are those of document 01 and of the requests C-11 to C-15;
+ * Checks and limits are those of document 01 and of the requests C-11 to C-16;
  * messages and tags are those of IDN-Stream, Revision 001.
  *
  * For x86-64 Linux. Link target/staticlib/libreceiver.a (`rt staticlib
@@ -25,7 +25,7 @@
 #include <stddef.h>
 #include <stdint.h>
 
-#define MEWKOAST_VERSION "0.10.0"
+#define MEWKOAST_VERSION "0.11.0"
 
 #ifdef __cplusplus
 extern "C" {
@@ -38,9 +38,10 @@ extern "C" {
  *    5     the length of the dictionary is odd or above 1,020
  *    6     the mode is neither 1 nor 2
  *    8     a tag's group is undefined
- *    9     a tag is unknown, a space value is reserved, or 4101 stands in
- *          mode 2
- *   10     precision, prefix or 5000 is misplaced, or a Void passes the end
+ *    9     Break (100n), a hint format beyond 1 (4102 to 410F), 4101 in mode
+ *          2, or a reserved space value
+ *   10     precision, prefix or 5000 is misplaced, or a tag skips words past
+ *          the end
  *   11     a signal, hint or space modifier repeats, or it is the 9th colour
  *          or the 33rd octet
  *   12     X (4200), Y (4210) or every colour is missing
@@ -50,6 +51,11 @@ extern "C" {
  * At each tag 8 to 11 (or 13, 14) are tried in turn, then the next tag
  * follows. A prefix followed wrongly is 10 at the tag after it, after 8 and
  * 9 there. At the end an unfinished prefix is 10; 12 comes last.
+ *
+ * Any other tag of a defined group that is not known is passed over: in group
+ * 0.0 it skips as many words as its parameter says, in 1.0 it does nothing,
+ * and in categories 4 and 5 its octet is ignored, with that of one precision
+ * directly after it. Ignored octets count in the width.
  */
 
 /* ---- 2. The dictionary check ------------------------------------------- */
@@ -77,7 +83,8 @@ uint32_t mewkoast_dictionary(uint32_t mode, const uint8_t *tags, size_t length);
  * What an accepted dictionary says of a sample.
  *
  *   roles     what octet i of a sample is for:
- *                 0    nothing, it is ignored;
+ *                 0    nothing, it is ignored: NOP, or an unknown tag or its
+ *                      precision;
  *             s + 1    the first octet of the signal in slot s;
  *            s + 33    the precision octet of the signal in slot s;
  *                65    the hint of format 0 (4100);
@@ -242,8 +249,9 @@ typedef struct {
  *    6  with Routing, the mode is not 0, 1, 2, 4 or 6
  *    7  the service does not go with the mode
  *    8  a tag's group is undefined
- *    9  a tag is unknown, a space value reserved, or 4101 in mode 2
- *   10  precision, prefix or 5000 is misplaced, or a Void passes the end
+ *    9  Break, a hint format beyond 1, 4101 in mode 2, a reserved space value
+ *   10  precision, prefix or 5000 is misplaced, or words are skipped past the
+ *       end
  *   11  a signal, hint or space modifier repeats, the 9th colour or 33rd octet
  *   12  X, Y or every colour is missing
  *   13  a dimmer tag is unknown, out of range or passes the end

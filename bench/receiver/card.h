@@ -3,9 +3,11 @@
  *
  * Written from document 01 and IDN-Stream, Revision 001, alone; what C-12 adds,
  * frames in fragments, and where C-13 puts check 15, with the other receivers at
- * hand. The record is changed in place and can be static: nothing is taken from
- * a heap. What a configuration says is worked out once, when a channel is
- * routed, and kept in the record as a plan for drawing.
+ * hand; what C-16 adds, unknown tags that are passed over, from the papers by the
+ * author of the same change in the Rust receiver. The record is changed in place
+ * and can be static: nothing is taken from a heap. What a configuration says is
+ * worked out once, when a channel is routed, and kept in the record as a plan for
+ * drawing.
  */
 #ifndef CARD_H
 #define CARD_H

@@ -13,18 +13,22 @@ enum kind {
     PRECISION,
     HINT,
     SPACE,
-    VOID,
-    UNKNOWN,
+    SKIP,    /* Void, or an unknown tag of group 0.0 */
+    NOTHING, /* an unknown tag of group 1.0 */
+    IGNORED, /* an unknown tag with an octet */
+    REFUSED, /* this and the next end the walk */
     UNDEFINED
 };
-enum { MOST_OCTETS = 32, MOST_COLOURS = 8, NO_SIGNAL = 0xFF };
+enum { MOST_OCTETS = 32, MOST_COLOURS = 8 };
+/* An unknown tag is open to precision like a signal, but gets into no plan. */
+enum { UNPLANNED = MOST_OCTETS, NO_SIGNAL = 0xFF };
 
 /* Where the walk along a dictionary stands. */
 struct walk {
-    uint8_t slots[MOST_OCTETS], places[MOST_OCTETS], fine[MOST_OCTETS];
+    uint8_t slots[MOST_OCTETS], places[MOST_OCTETS], fine[MOST_OCTETS + 1];
     uint32_t seen;    /* bit s: slot s or kind s was met */
     uint8_t signals, colours, width;
-    uint8_t open;     /* precision may follow this signal */
+    uint8_t open;     /* precision may follow this signal, or UNPLANNED */
     uint8_t prefixed; /* a prefix waits for 5000 */
 };
 
@@ -45,23 +49,26 @@ static uint8_t coordinate(uint16_t tag)
     case 0x4220: return 2;
     case 0x4201: return 3;
     case 0x4211: return 4;
-    default: return UNKNOWN;
+    default: return IGNORED;
     }
 }
 
+/* C-16: an unknown tag of a defined group is passed over, but for a few. */
 static uint8_t kind_of(uint16_t tag, uint8_t state)
 {
     switch (tag >> 8) {
     case 0x00:
-        return tag <= 0x000F ? VOID : UNKNOWN;
+        return SKIP; /* by the parameter, whatever the identifier */
     case 0x10:
-        return UNKNOWN; /* Break, for heads that this card does not have */
+        /* Break is refused: it is for heads that this card does not have. */
+        return tag <= 0x100F ? REFUSED : NOTHING;
     case 0x11:
-        return space_reserved(tag) ? UNKNOWN : SPACE;
+        return space_reserved(tag) ? REFUSED : SPACE;
     case 0x40:
-        return tag == 0x4000 ? NOP : tag == 0x4010 ? PRECISION : UNKNOWN;
+        return tag == 0x4000 ? NOP : tag == 0x4010 ? PRECISION : IGNORED;
     case 0x41:
-        return tag == 0x4100 || (tag == 0x4101 && state == CARD_WAVE) ? HINT : UNKNOWN;
+        return tag == 0x4100 || (tag == 0x4101 && state == CARD_WAVE) ? HINT
+             : tag <= 0x410F ? REFUSED : IGNORED;
     case 0x42:
         return coordinate(tag);
     case 0x50:
@@ -70,13 +77,13 @@ static uint8_t kind_of(uint16_t tag, uint8_t state)
         return COLOUR;
     case 0x5C:
         return tag == 0x5C00 ? PREFIX : tag == 0x5C10 ? INTENSITY
-             : tag == 0x5C20 ? BRUSH : UNKNOWN;
+             : tag == 0x5C20 ? BRUSH : IGNORED;
     default:
         return UNDEFINED;
     }
 }
 
-/* Check 10, but for a Void that passes the end. */
+/* Check 10, but for a skip that passes the end. */
 static int misplaced(const struct walk *w, uint8_t kind)
 {
     if (kind == PRECISION)
@@ -127,6 +134,8 @@ static void apply(struct walk *w, uint8_t kind, uint16_t tag, struct card_channe
         plan->shutter = tag & 1;
     } else if (kind == SPACE) {
         channel->space = tag;
+    } else if (kind == IGNORED) {
+        w->open = UNPLANNED;
     }
     w->width += takes_octet[tag >> 12];
 }
@@ -143,6 +152,7 @@ static uint8_t list_of(uint8_t slot, uint8_t fine)
 /*
  * The common shape: X and Y with precision, colours of one octet side by side,
  * perhaps a hint and an intensity of one octet. It has a loop of its own.
+ * Octets that are ignored may stand anywhere but between the colours.
  */
 static void find_common_shape(struct card_samples *plan, uint8_t colours)
 {
@@ -199,12 +209,10 @@ uint8_t card_dictionary(uint8_t state, const uint8_t *tags, size_t length,
     for (size_t at = 0; at < length; at += 2) {
         uint16_t tag = (uint16_t)(tags[at] << 8 | tags[at + 1]);
         uint8_t kind = kind_of(tag, state);
-        size_t skipped = kind == VOID ? 2 * (size_t)(tag & 15) : 0;
+        size_t skipped = kind == SKIP ? 2 * (size_t)(tag & 15) : 0;
 
-        if (kind == UNDEFINED)
-            return 8;
-        if (kind == UNKNOWN)
-            return 9;
+        if (kind >= REFUSED)
+            return kind == REFUSED ? 9 : 8;
         if (misplaced(&w, kind) || skipped > length - at - 2)
             return 10;
         if (too_many(&w, kind, tag))

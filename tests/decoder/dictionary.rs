@@ -1,5 +1,5 @@
 //! The dictionary check: document 01, "Tag dictionary, modes 1 and 2" and
-//! "Checks, in order", numbers 8 to 12.
+//! "Checks, in order", numbers 8 to 12, and document 02, C-16.
 
 /// Document 01, "Tag dictionary": the limits of a sample.
 pub const MOST_OCTETS: usize = 32;
@@ -26,7 +26,7 @@ pub enum Part {
     Precision(usize),
     /// The hint octet of format 0 (4100) or 1 (4101).
     Hint(u8),
-    /// The octet of a NOP.
+    /// The octet of a NOP, of an unknown tag or of its precision.
     Ignored,
 }
 
@@ -61,10 +61,16 @@ impl Layout {
     }
 }
 
-/// The known tags (document 01, "Tags known").
+/// The known tags (document 01, "Tags known"), and what stands for the unknown
+/// ones that are passed over (document 02, C-16).
 #[derive(Clone, Copy)]
 enum Tag {
-    Void(usize),
+    /// The words to skip: Void, or an unknown tag of group 0.0.
+    Skip(usize),
+    /// An unknown tag of group 1.0: "nothing more happens".
+    Nothing,
+    /// An unknown tag of category 4 or 5: "its octet is ignored".
+    Unknown,
     Space(u16),
     Nop,
     Precision,
@@ -85,6 +91,8 @@ enum Before {
     Prefix,
     /// A prefix with its precision.
     PrecisePrefix,
+    /// An unknown tag of category 4 or 5, whose precision may follow.
+    Unknown,
     Other,
 }
 
@@ -117,7 +125,7 @@ pub fn check(mode: u32, tags: &[u8]) -> Result<Layout, u32> {
         }
         before = add(&mut layout, before, tag);
         rest = match tag {
-            Tag::Void(words) => &after[2 * words..],
+            Tag::Skip(words) => &after[2 * words..],
             _ => after,
         };
     }
@@ -135,24 +143,63 @@ fn read(mode: u32, word: u16) -> Result<Tag, u32> {
     if !group_defined(word) {
         return Err(8);
     }
-    match word {
-        0x0000..=0x000F => Ok(Tag::Void((word & 0xF) as usize)),
-        0x1100..=0x11FF if !space_reserved(word) => Ok(Tag::Space(word)),
-        0x4000 => Ok(Tag::Nop),
-        0x4010 => Ok(Tag::Precision),
-        0x4100 => Ok(Tag::Hint(0)),
-        0x4101 if mode == 1 => Ok(Tag::Hint(1)),
-        0x4200 => Ok(Tag::Signal(X)),
-        0x4210 => Ok(Tag::Signal(Y)),
-        0x4220 => Ok(Tag::Signal(Z)),
-        0x4201 => Ok(Tag::Signal(SECOND_X)),
-        0x4211 => Ok(Tag::Signal(SECOND_Y)),
-        0x5000..=0x53FF => Ok(Tag::Colour(word & 0x3FF)),
-        0x5C00 => Ok(Tag::Prefix),
-        0x5C10 => Ok(Tag::Signal(INTENSITY)),
-        0x5C20 => Ok(Tag::Signal(BRUSH)),
-        _ => Err(9),
+    if still_refused(mode, word) {
+        return Err(9);
     }
+    Ok(known(word).unwrap_or_else(|| unknown(word)))
+}
+
+/// Document 02, C-16: "Break, hint formats beyond 1, hint 1 in mode 2 and
+/// reserved space values still give 9."
+fn still_refused(mode: u32, word: u16) -> bool {
+    match word {
+        0x1000..=0x100F => true,
+        0x1100..=0x11FF => space_reserved(word),
+        0x4101 => mode == 2,
+        0x4102..=0x410F => true,
+        _ => false,
+    }
+}
+
+/// Document 01, "Tags known".
+fn known(word: u16) -> Option<Tag> {
+    match word {
+        0x0000..=0x000F => Some(Tag::Skip(parameter(word))),
+        0x1100..=0x11FF => Some(Tag::Space(word)),
+        0x4000 => Some(Tag::Nop),
+        0x4010 => Some(Tag::Precision),
+        0x4100 => Some(Tag::Hint(0)),
+        0x4101 => Some(Tag::Hint(1)),
+        0x4200 => Some(Tag::Signal(X)),
+        0x4210 => Some(Tag::Signal(Y)),
+        0x4220 => Some(Tag::Signal(Z)),
+        0x4201 => Some(Tag::Signal(SECOND_X)),
+        0x4211 => Some(Tag::Signal(SECOND_Y)),
+        0x5000..=0x53FF => Some(Tag::Colour(word & 0x3FF)),
+        0x5C00 => Some(Tag::Prefix),
+        0x5C10 => Some(Tag::Signal(INTENSITY)),
+        0x5C20 => Some(Tag::Signal(BRUSH)),
+        _ => None,
+    }
+}
+
+/// Document 02, C-16: "an unknown tag of a defined group is passed over". What
+/// more it does depends on the category alone. X, Y and Z "with parameters
+/// beyond those of 01" come here like any other.
+fn unknown(word: u16) -> Tag {
+    match word >> 12 {
+        // "In group 0.0 its parameter gives the words to skip."
+        0 => Tag::Skip(parameter(word)),
+        // "In 1.0 nothing more happens."
+        1 => Tag::Nothing,
+        // "In categories 4 and 5 its octet is ignored".
+        _ => Tag::Unknown,
+    }
+}
+
+/// Document 01, "Tag dictionary": the parameter is the fourth nibble.
+fn parameter(word: u16) -> usize {
+    usize::from(word & 0xF)
 }
 
 /// Document 01, "Groups defined".
@@ -175,9 +222,11 @@ fn misplaced(before: Before, tag: Tag, words: usize) -> bool {
         (Before::Prefix, Tag::Precision) => false,
         (Before::Prefix | Before::PrecisePrefix, Tag::Colour(0)) => false,
         (Before::Prefix | Before::PrecisePrefix, _) => true,
-        (Before::Value(_), Tag::Precision) => false,
+        // Document 02, C-16: an unknown tag may have "one precision tag directly
+        // behind it".
+        (Before::Value(_) | Before::Unknown, Tag::Precision) => false,
         (_, Tag::Precision | Tag::Colour(0)) => true,
-        (_, Tag::Void(skipped)) => skipped > words,
+        (_, Tag::Skip(skipped)) => skipped > words,
         _ => false,
     }
 }
@@ -186,9 +235,9 @@ fn misplaced(before: Before, tag: Tag, words: usize) -> bool {
 fn too_many(layout: &Layout, tag: Tag) -> bool {
     let full = layout.width() == MOST_OCTETS;
     match tag {
-        Tag::Void(_) => false,
+        Tag::Skip(_) | Tag::Nothing => false,
         Tag::Space(_) => layout.space != 0,
-        Tag::Nop | Tag::Precision | Tag::Prefix => full,
+        Tag::Nop | Tag::Unknown | Tag::Precision | Tag::Prefix => full,
         Tag::Hint(_) => full || layout.has(Part::Hint(0)) || layout.has(Part::Hint(1)),
         Tag::Signal(slot) => full || layout.has(Part::First(slot)),
         Tag::Colour(_) => full || layout.wavelengths.len() == MOST_COLOURS,
@@ -199,17 +248,19 @@ fn too_many(layout: &Layout, tag: Tag) -> bool {
 fn add(layout: &mut Layout, before: Before, tag: Tag) -> Before {
     let colour = layout.wavelengths.len();
     let (part, now) = match tag {
-        Tag::Void(_) => return Before::Other,
+        Tag::Skip(_) | Tag::Nothing => return Before::Other,
         Tag::Space(word) => {
             layout.space = word;
             return Before::Other;
         }
         Tag::Nop => (Part::Ignored, Before::Other),
+        Tag::Unknown => (Part::Ignored, Before::Unknown),
         Tag::Hint(format) => (Part::Hint(format), Before::Other),
         Tag::Signal(slot) => (Part::First(slot), Before::Value(slot)),
         Tag::Prefix => (Part::First(WAVELENGTHS + colour), Before::Prefix),
         Tag::Precision => match before {
             Before::Value(slot) => (Part::Precision(slot), Before::Other),
+            Before::Unknown => (Part::Ignored, Before::Other),
             _ => (Part::Precision(WAVELENGTHS + colour), Before::PrecisePrefix),
         },
         Tag::Colour(wavelength) => {

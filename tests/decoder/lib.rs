@@ -1,5 +1,5 @@
-//! A second decoder, written from document 01, requests C-11 to C-14 of
-//! document 02 and source document 003 alone. The tests compare the proved
+//! A second decoder, written from document 01, requests C-11 to C-14 and C-16
+//! of document 02 and source document 003 alone. The tests compare the proved
 //! functions with it. What generates messages for the comparisons is in
 //! tests/generate.
 
@@ -37,6 +37,12 @@ mod fragment_list;
 mod fragment_slices;
 #[cfg(test)]
 mod history;
+#[cfg(test)]
+mod newer_samples;
+#[cfg(test)]
+mod newer_tags;
+#[cfg(test)]
+mod newer_words;
 #[cfg(test)]
 mod receiver_edges;
 #[cfg(test)]

@@ -1,4 +1,5 @@
-//! Document 01, "Bench table", cases a to h, as whole messages.
+//! Document 01, "Bench table", cases a to h, as whole messages; document 02,
+//! C-16, changes case h.
 
 use crate::listing::listing;
 use crate::receiver::{Receiver, Reply};
@@ -145,8 +146,11 @@ fn g_counts_of_samples() {
 
 #[test]
 fn h_refused_tags() {
-    for (tag, number) in [("4010", 10), ("3000", 8), ("4230", 9)] {
-        let words = format!("{tag} 4200 4210 527E");
-        assert_eq!(Host::new().number(&routed(2, 1, 2, &words, &[])), number);
+    let number = |words: &str| Host::new().number(&routed(2, 1, 2, words, &[]));
+    for (tag, refusal) in [("4010", 10), ("3000", 8), ("1000", 9)] {
+        assert_eq!(number(&format!("{tag} 4200 4210 527E")), refusal);
     }
+    // Document 02, C-16: "4230 alone now gives 12". The zeros behind it are Void.
+    assert_eq!(number("4230 0000"), 12);
+    assert_eq!(number("4230 4200 4210 527E"), 0);
 }

@@ -1,4 +1,4 @@
-//! Document 01, "Bench table", cases a to h.
+//! Document 01, "Bench table", cases a to h; document 02, C-16, changes case h.
 
 use crate::dictionary::{check, Layout, Part, Wavelength};
 use crate::dimmer::{self, PLACES};
@@ -108,5 +108,6 @@ fn g_counts_of_samples() {
 fn h_refused_tags() {
     assert_eq!(check(1, &octets("4010")), Err(10));
     assert_eq!(check(1, &octets("3000")), Err(8));
-    assert_eq!(check(1, &octets("4230")), Err(9));
+    // Document 02, C-16: "4230 alone now gives 12".
+    assert_eq!(check(1, &octets("4230")), Err(12));
 }

@@ -1,10 +1,10 @@
-//! Which situations of document 01 and of requests C-11 to C-13 the generated
-//! streams reach, and how often. Each of them must occur.
+//! Which situations of document 01 and of requests C-11 to C-13 and C-16 the
+//! generated streams reach, and how often. Each of them must occur.
 
 use crate::assembly::LONGEST;
 use crate::random::Random;
 use crate::stream::{stream, Offer, Stream};
-use crate::{first_point, split_frames, split_table, two_checks};
+use crate::{first_point, newer_tags, split_frames, split_table, two_checks};
 use decoder::message::{self, Message, FRAME, LEVELS, SEQUEL, VOID, WAVE};
 use decoder::receiver::{added, Receiver, Reply, LIMIT};
 use decoder::route::{self, Governing, Tags};
@@ -227,11 +227,13 @@ fn situations_of_generated_streams() {
         count(&mut counts, format!("start {number}"));
         split_frames::follow(&stream, |situation| count(&mut counts, situation));
         two_checks::follow(&stream, |situation| count(&mut counts, situation));
+        newer_tags::follow(&stream, |situation| count(&mut counts, situation));
     }
     let often = first_point::SITUATIONS
         .iter()
         .chain(&split_table::SITUATIONS)
-        .chain(&two_checks::SITUATIONS);
+        .chain(&two_checks::SITUATIONS)
+        .chain(&newer_tags::SITUATIONS);
     let often = often.map(|(situation, least, _)| (situation.to_string(), *least));
     let any = situations().into_iter().map(|situation| (situation, 5));
     for (situation, least) in any.chain(often) {

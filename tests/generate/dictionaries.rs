@@ -1,5 +1,6 @@
 //! The dictionaries whose words are replaced one by one. Together they use
-//! every tag, and some of them are refused as they stand.
+//! every tag and unknown tags of each group that has them, and some of them are
+//! refused as they stand.
 
 /// The words repeated `count` times.
 fn times(count: usize, words: &str) -> String {
@@ -68,7 +69,7 @@ const REFUSED: &[&str] = &[
     "4200 4210 527E 3000",
     "4200 4210 5C00 5400",
     // 9.
-    "4200 4230 4210 527E",
+    "4200 4102 4210 527E",
     "4200 4210 527E 1000 4200",
     "1182 4200 4210 527E",
     // 10.
@@ -94,6 +95,40 @@ const REFUSED: &[&str] = &[
     "0000",
 ];
 
+/// Dictionaries with unknown tags that are passed over: request C-16.
+const UNKNOWN: &[&str] = &[
+    // Each group that has them, first, in the middle and last. 0.0: the parameter
+    // alone gives the words to skip, to the end too. 1.0 has no octet.
+    "0010 4200 0021 4010 4210 527E 00F2 3000 4200",
+    "1010 4200 101F 4210 10FF 527E 1020",
+    // 4.0 and 4.1, without precision and with it.
+    "4001 4200 4210 527E 40F0 4010",
+    "4110 4010 4210 4200 5C00 5000 41FF",
+    // 4.2: bench table, h, between X and Y; X, Y and Z with other parameters. The
+    // precision of an unknown tag directly behind X is not that of X.
+    "4200 4230 4210 527E",
+    "4200 4202 4010 4210 4010 4212 4221 527E",
+    // 5.12: two in a row, directly before a prefix and behind a prefixed colour.
+    "5C01 5C11 4010 5C00 4010 5000 5C30 4200 4210",
+    // Between a space modifier, a hint and a NOP.
+    "1155 4011 4100 5CFF 4010 4000 4200 4210 527E",
+];
+
+/// Dictionaries with unknown tags that are refused as they stand.
+const UNKNOWN_REFUSED: &[&str] = &[
+    // 10: a second precision; precision where there is no octet.
+    "4200 4020 4010 4010 4210 527E",
+    "4200 1010 4010 4210 527E",
+    "4200 0020 4010 4210 527E",
+    // 10: behind a prefix and behind its precision.
+    "4200 4210 5C00 42F0 5000",
+    "4200 4210 5C00 4010 5C21 5000",
+    // 10: a skip that passes the end by one word.
+    "4200 4210 527E 0033 4000 4000",
+    // 12: X with another parameter is no X.
+    "420F 4210 527E",
+];
+
 /// Dictionaries at the limits of 8 colours and 32 octets, and past them.
 fn limits() -> Vec<String> {
     let precise = times(7, "5C00 4010 5000 4010");
@@ -115,6 +150,10 @@ fn limits() -> Vec<String> {
         format!("{signals} {colours} 4101"),
         format!("4100 {signals} {colours} 4000 4000"),
         format!("{} 4200 4210 5C00 4010 5000 4010", times(27, "4000")),
+        // 32 octets of which 29 are ignored, and a word that has none; 33 octets,
+        // the last of them the precision of an unknown tag.
+        format!("4200 4210 527E {} 5C2F 10F0", times(14, "4230 4010")),
+        format!("{} 4200 4210 5C00 4010 5000 40FF 4010", times(26, "41F0")),
     ]
 }
 
@@ -140,7 +179,7 @@ pub fn octets(text: &str) -> Vec<u8> {
 
 /// All dictionaries; those of the source document come first.
 pub fn all() -> Vec<Vec<u8>> {
-    let fixed = [SOURCE, SHORT, REFUSED].concat();
+    let fixed = [SOURCE, SHORT, REFUSED, UNKNOWN, UNKNOWN_REFUSED].concat();
     let mut all: Vec<Vec<u8>> = fixed.into_iter().map(octets).collect();
     all.extend(limits().iter().chain(&voids()).map(|text| octets(text)));
     all

@@ -12,7 +12,8 @@ const METERS: [&str; 3] = ["lit microseconds", "points", "lit points"];
 
 /// The situations that must occur: in how many messages of the streams of
 /// coverage.rs, and in how many histories of histories.rs. Each number is at
-/// most half of the least that twelve seeds gave.
+/// most half of the least that twelve seeds gave when the table was made; the
+/// streams have changed since.
 pub const SITUATIONS: [(&str, u64, usize); 25] = [
     ("frame lit only at first", 370, 75),
     ("frame lit at first and later", 500, 80),

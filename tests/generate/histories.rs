@@ -1,13 +1,13 @@
 //! The decoder's receiver against its look-back rule on generated streams, how
 //! often each number occurs in them, and how many of them hold each situation
-//! of requests C-11 to C-13.
+//! of requests C-11 to C-13 and C-16.
 
 use crate::assembly::LONGEST;
 use crate::coverage::follow;
 use crate::end_to_end::end_to_end;
 use crate::random::Random;
 use crate::stream::{stream, Offer, Stream};
-use crate::{first_point, split_frames, split_table, two_checks};
+use crate::{first_point, newer_tags, split_frames, split_table, two_checks};
 use decoder::listing::listing;
 use decoder::lookback::{sums, verdicts, Offered};
 use decoder::message::SEQUEL;
@@ -56,7 +56,8 @@ fn generated_streams() {
     let table = first_point::SITUATIONS
         .iter()
         .chain(&split_table::SITUATIONS)
-        .chain(&two_checks::SITUATIONS);
+        .chain(&two_checks::SITUATIONS)
+        .chain(&newer_tags::SITUATIONS);
     for (situation, _, least) in table {
         let count = decided.iter().filter(|of| of.contains(*situation)).count();
         println!("{count} histories: {situation}");
@@ -64,7 +65,7 @@ fn generated_streams() {
     }
 }
 
-/// The situations of requests C-11 to C-13 that a history holds.
+/// The situations of requests C-11 to C-13 and C-16 that a history holds.
 fn situations(stream: &Stream) -> BTreeSet<String> {
     let mut list = BTreeSet::new();
     follow(stream, |case| list.extend(first_point::situations(case)));
@@ -72,6 +73,9 @@ fn situations(stream: &Stream) -> BTreeSet<String> {
         list.insert(situation);
     });
     two_checks::follow(stream, |situation| {
+        list.insert(situation);
+    });
+    newer_tags::follow(stream, |situation| {
         list.insert(situation);
     });
     list

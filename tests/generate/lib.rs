@@ -26,6 +26,7 @@ mod set;
 mod split;
 mod spoiled;
 pub mod stream;
+mod unknown;
 mod words;
 pub mod wrong;
 mod wrong_octets;
@@ -40,6 +41,10 @@ mod gathered;
 mod histories;
 #[cfg(test)]
 mod kept;
+#[cfg(test)]
+mod newer_tags;
+#[cfg(test)]
+mod newer_words;
 #[cfg(test)]
 mod probed;
 #[cfg(test)]
@@ -60,3 +65,5 @@ mod split_table;
 mod steps;
 #[cfg(test)]
 mod two_checks;
+#[cfg(test)]
+mod walked;

@@ -14,7 +14,7 @@ pub struct Lit {
 }
 
 /// Samples that are dark, have few octets that are not 0, are random, or are
-/// lit where it is chosen.
+/// lit where it is chosen. Some are not whole.
 pub fn samples(random: &mut Random, layout: &Layout) -> Vec<u8> {
     let width = layout.width();
     let mut points = random.pick(&[
@@ -42,10 +42,22 @@ pub fn samples(random: &mut Random, layout: &Layout) -> Vec<u8> {
             lit_samples(random, layout, points, lit)
         }
     };
-    if random.chance(4) {
-        octets.push(random.octet());
-    }
+    cut(random, layout, &mut octets);
     octets
+}
+
+/// Leaves most as they are. Others get an octet over or short, or are as many as
+/// there would be without the octets that are ignored.
+fn cut(random: &mut Random, layout: &Layout, octets: &mut Vec<u8>) {
+    let used = layout.parts.iter().filter(|part| **part != Part::Ignored);
+    match random.below(50) {
+        0 | 1 => octets.push(random.octet()),
+        2 | 3 => {
+            octets.pop();
+        }
+        4..=8 => octets.truncate(octets.len() / layout.width() * used.count()),
+        _ => {}
+    }
 }
 
 /// So many octets of which few are not 0.

@@ -1,6 +1,7 @@
 //! The situations of a set in a list of calls: request C-14. What is asked of
 //! the messages behind it is in set_later.rs.
 
+use crate::walked::Dictionary;
 use decoder::end_to_end::{end_to_end, Cut};
 use decoder::message::{self, Message};
 use decoder::receiver::Receiver;
@@ -95,6 +96,14 @@ impl Case<'_> {
         note(read.iter().any(close), "with Close");
         let data = |message: &Message| !message.data.is_empty();
         note(read.iter().any(data), "data in mode 0");
+        let ignoring = |message: &Message| {
+            let own = message.routing.as_ref().and_then(Dictionary::of);
+            own.is_some_and(|own| !own.ignored().is_empty())
+        };
+        note(
+            read.iter().any(ignoring),
+            "a dictionary with ignored octets",
+        );
         let alive = |octets: &&[u8]| octets[2] & 0x40 == 0;
         note(messages.iter().any(alive), "without configuration");
         for number in [15, 16] {

@@ -4,7 +4,7 @@
 /// In how many sets, or messages behind them, of the lists of set_histories.rs.
 /// Each number is at most half of the least that 24 seeds gave.
 #[rustfmt::skip]
-pub const SITUATIONS: [(&str, u64); 98] = [
+pub const SITUATIONS: [(&str, u64); 99] = [
     // "An empty list is accepted", and "opens up to 64 channels together".
     ("set of 0, accepted", 221),
     ("set of 1, accepted", 500),
@@ -98,6 +98,8 @@ pub const SITUATIONS: [(&str, u64); 98] = [
     ("set accepted, with Close", 1349),
     ("set accepted, without configuration", 1236),
     ("set accepted, data in mode 0", 570),
+    // Request C-16: "an unknown tag of a defined group is passed over".
+    ("set accepted, a dictionary with ignored octets", 650),
     // Request C-12: "on that channel an accepted routing or close [...] drops what was
     // gathered".
     ("set accepted, drops what is gathered by Close alone", 21),

@@ -3,7 +3,7 @@
 
 /// In how many messages of the streams of coverage.rs, and in how many
 /// histories of histories.rs. Each number is at most half of the least that
-/// 24 seeds gave.
+/// 24 seeds gave when the table was made; the streams have changed since.
 #[rustfmt::skip]
 pub const SITUATIONS: [(&str, u64, usize); 175] = [
     // "The first message carries the chunk header and may carry configuration".

@@ -12,7 +12,8 @@ use decoder::receiver::added;
 
 /// The situations that must occur: in how many messages of the streams of
 /// coverage.rs, and in how many histories of histories.rs. Each number is at
-/// most half of the least that 24 seeds gave.
+/// most half of the least that 24 seeds gave when the table was made; the
+/// streams have changed since.
 #[rustfmt::skip]
 pub const SITUATIONS: [(&str, u64, usize); 77] = [
     // What the message's own channel was before.

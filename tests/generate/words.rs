@@ -2,6 +2,7 @@
 //! most of them accepted, the others for each of the numbers 8 to 14.
 
 use crate::random::Random;
+use crate::unknown;
 use decoder::dictionary;
 
 /// The octets of configuration words for a mode; their count is a multiple
@@ -33,20 +34,20 @@ fn dictionary(random: &mut Random, mode: u8) -> Vec<u8> {
     if random.chance(25) {
         spoil(random, &mut groups);
     }
+    if random.chance(2) {
+        let octets = random.pick(&[31, 32, 32, 33, 33]);
+        unknown::fill(random, &mut groups, octets);
+    }
     random.shuffle(&mut groups);
     if groups.concat().len() % 2 == 1 {
         let place = random.between(0, groups.len());
         groups.insert(place, vec![random.pick(&[0x0000, 0x0000, 0x0000, 0x4000])]);
     }
-    if random.chance(2) {
-        // A Void whose words end with the dictionary, or one word after it.
-        let skipped = random.between(1, 15);
-        let there = skipped - random.below(2);
-        let mut group = vec![skipped as u16];
-        group.extend((0..there).map(|_| random.next() as u16));
-        groups.push(group);
+    if random.chance(4) {
+        groups.push(last(random));
     } else if random.chance(2) {
-        stretch(&mut groups, 510, 0x000F, 0x0000);
+        let identifier = random.pick(&[0x0000, 0x00F0]);
+        stretch(&mut groups, 510, identifier | 0xF, identifier);
     }
     let mut tags = groups.concat();
     if random.chance(4) {
@@ -58,6 +59,18 @@ fn dictionary(random: &mut Random, mode: u8) -> Vec<u8> {
     }
     tags.truncate(510);
     tags.iter().flat_map(|tag| tag.to_be_bytes()).collect()
+}
+
+/// A Void or an unknown tag whose words end with the dictionary, or one word
+/// after it.
+fn last(random: &mut Random) -> Vec<u16> {
+    let skipped = random.between(1, 15);
+    let there = skipped - random.below(2);
+    let mut group = unknown::skipping(random, skipped, there);
+    if random.chance(50) {
+        group[0] &= 0x000F;
+    }
+    group
 }
 
 fn signals(random: &mut Random, mode: u8) -> Vec<Vec<u16>> {
@@ -86,6 +99,11 @@ fn signals(random: &mut Random, mode: u8) -> Vec<Vec<u16>> {
         let mut group = vec![skipped];
         group.extend((0..skipped).map(|_| random.next() as u16));
         groups.push(group);
+    }
+    if random.chance(20) {
+        for _ in 0..random.pick(&[1, 1, 2, 3]) {
+            groups.push(unknown::group(random));
+        }
     }
     groups
 }
@@ -118,30 +136,37 @@ fn space(random: &mut Random) -> u16 {
 
 /// Adds or takes away what one of the numbers 8 to 12 forbids.
 fn spoil(random: &mut Random, groups: &mut Vec<Vec<u16>>) {
-    let new = match random.below(12) {
+    let new = match random.below(14) {
         0 => vec![random.pick(&[0x3000, 0x0100, 0x1200, 0x4300, 0x5400, 0x5D00, 0xC000])],
-        1 => vec![random.pick(&[0x0010, 0x1000, 0x4001, 0x4102, 0x4230, 0x4202, 0x5C30])],
-        2 => vec![random.pick(&[0x4101, 0x1180, 0x1108, 0x1102, 0x11AA])],
+        1 => vec![random.pick(&[0x1000, 0x1001, 0x100F, 0x4102, 0x4102, 0x410F])],
+        2 => vec![random.pick(&[0x4101, 0x4101, 0x1180, 0x1108, 0x1102, 0x11AA])],
         3 => vec![random.pick(&[0x4010, 0x5000, 0x5C00])],
         4 => vec![
             0x5C00,
-            random.pick(&[0x0000, 0x4000, 0x527E, 0x4230, 0x3000]),
+            random.pick(&[0x0000, 0x4000, 0x527E, 0x1000, 0x3000]),
         ],
-        5 => vec![0x4200, 0x4010, 0x4010],
+        5 => vec![random.pick(&[0x4000, 0x4200]), 0x4010, 0x4010],
         6 | 7 => vec![random.pick(&[0x4200, 0x4210, 0x5C10, 0x4100, 0x1155])],
         8 => vec![0x527E; 9],
         9 => vec![0x4000; random.between(20, 33)],
-        _ => {
-            let gone = random.pick(&[0x4200, 0x4210, 0x5000]);
-            let category = if gone == 0x5000 { 0xF000 } else { 0xFFFF };
-            groups.retain(|group| group[0] & category != gone);
-            return;
-        }
+        10 | 11 => unknown::misplaced(random),
+        _ => return incomplete(random, groups),
     };
     groups.push(new);
 }
 
-/// Fills groups up with Void tags until there are `most` words or octets.
+/// Takes X, Y or every colour away. An unknown tag of the same category is none
+/// of them.
+fn incomplete(random: &mut Random, groups: &mut Vec<Vec<u16>>) {
+    let (gone, other) = random.pick(&[(0x4200, 0x4202), (0x4210, 0x4212), (0x5000, 0x5C01)]);
+    let category = if gone == 0x5000 { 0xF000 } else { 0xFFFF };
+    groups.retain(|group| group[0] & category != gone);
+    if random.chance(40) {
+        groups.push(precise(random, other));
+    }
+}
+
+/// Fills groups up with tags that skip until there are `most` words or octets.
 fn stretch<T: Clone>(groups: &mut Vec<Vec<T>>, most: usize, skips_15: T, skips_none: T) {
     let mut length: usize = groups.iter().map(Vec::len).sum();
     while length < most {

@@ -19,12 +19,14 @@ use generate::dictionaries;
 use std::process::ExitCode;
 use tally::Tally;
 
-/// Hints before, between and after colours and intensity, both formats.
+/// Hints before, between and after colours and intensity, both formats, and
+/// between octets that are ignored.
 const HINTS: &[&str] = &[
     "4200 4210 527E 4010 4100",
     "4101 4200 4210 527E 4010 5C10 4010",
     "5C10 4010 4200 4010 5C00 4010 5000 4010 4101 4210 5C20 4010 5214",
     "4200 4210 4220 5C20 5C10 4100 527E 5214 51CC",
+    "4200 4202 4010 4210 5C30 4100 40F0 4010 527E 4010 5C21 5C10",
 ];
 
 fn main() -> ExitCode {

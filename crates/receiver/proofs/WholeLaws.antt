@@ -1,19 +1,19 @@
 -- Laws about the numbers of a message's own checks and of those on the whole: 20 to 23 are the whole's alone, so that the number that a
 -- message is answered with tells whether its fragment was taken.
 use mathlib.Core.Path.{_≡_, refl, sym, _∙_}
-use Prim.Native.Nat.{ℕ, zero, suc, _-_, _*_}
+use Prim.Native.Nat.{ℕ, zero, suc, _*_}
 use mathlib.Core.Bool.{Bool, true, false, false≢true, cond, not, and-false, or-true, _&&_, _||_}
 use mathlib.Core.Logic.{_⊎_, inl, inr}
 use mathlib.Core.List.{List}
-use lib.ListN.{length, getD}
+use lib.ListN.{length}
 use lib.Dec.{ltb, eqb, eqb·suc-zero}
 use borrow.Author.Tests.{eqb-true}
 use Rattle.tags.specs.Choice.{refuse, first}
-use Rattle.tags.specs.ChoiceLaws.{and-left, or-cases}
+use Rattle.tags.specs.ChoiceLaws.{and-left, or-cases, refuse-holds, first-holds}
 use Rattle.tags.specs.Limits.{rowSize, placeCount}
-use Rattle.tags.specs.Tag.{definedGroup, skips, knownTag}
-use Rattle.tags.specs.Dictionary.{DictionaryWalk, nothingRead, misplaced, repeated, tagNumber, sampleWith, allowedAfter, read, step, wordAt, wordCount, walked, incomplete, endNumber, dictionaryNumber}
-use Rattle.tags.specs.Dimmer.{DimmerWalk, nothingMapped, operands, badDimmerTag, clashingTag, dimmerTagNumber, mappingWith, readDimmer, stepDimmer, dimmed, dimmerNumber}
+use Rattle.tags.specs.Dictionary.{dictionaryNumber}
+use Rattle.tags.specs.Dimmer.{dimmerNumber}
+use Rattle.tags.specs.RefusalLaws.{dictionaryNumber-holds, dimmerNumber-holds}
 use Rattle.tags.specs.Rows.{sampleOctets, samplesOf, pointsFor}
 use Rattle.tags.specs.Levels.{levelsFit}
 use Rattle.receiver.specs.Message.{topBit, channelOf, typeOf, timestampOf, sequelType, isSequel, isLast, routes, serviceOf, modeOf, tagsOf, dataOf}
@@ -31,88 +31,25 @@ use Rattle.receiver.proofs.MeterLaws.{meter-idle}
 
 -- ---- checks in a row that give no number of the whole
 
+abbrev NotWhole : ℕ → Type 0
+NotWhole n = ofWhole n ≡ false
+
 ofWhole-refuse : (b : Bool) (n : ℕ) → ofWhole n ≡ false → ofWhole (refuse b n) ≡ false
-ofWhole-refuse true n e = e
-ofWhole-refuse false n e = refl
+ofWhole-refuse b n = refuse-holds NotWhole b n refl
 
 ofWhole-first : (x y : ℕ) → ofWhole x ≡ false → ofWhole y ≡ false → ofWhole (first x y) ≡ false
-ofWhole-first x y e f = go (eqb x 0)
-  where
-    go : (b : Bool) → ofWhole (cond b y x) ≡ false
-    go true = f
-    go false = e
-
--- the walk over a dictionary refuses by 8 to 12, that over dimmer tags by 13 and 14
-dictionary-step : (mode after w : ℕ) (s : DictionaryWalk) → ofWhole (s .refusal) ≡ false → ofWhole (step mode after w s .refusal) ≡ false
-unfolding step read tagNumber
-dictionary-step mode after w s h =
-    go (eqb (s .refusal) 0) (eqb (s .skip) 0) (not (definedGroup w)) (not (knownTag mode w)) (misplaced after w (s .allowed)) (repeated w (s .sample))
-  where
-    go : (r k a b c d : Bool)
-        → ofWhole
-        (cond r
-        (cond k
-        (let n = first (refuse a 8) (first (refuse b 9) (first (refuse c 10) (refuse d 11))) in
-        cond (eqb n 0) (record { refusal = 0; skip = skips w; allowed = allowedAfter w s; sample = sampleWith w s }) (nothingRead n))
-        (record { refusal = 0; skip = s .skip - 1; allowed = s .allowed; sample = s .sample }))
-        s .refusal)
-        ≡ false
-    go false k a b c d = h
-    go true false a b c d = refl
-    go true true true b c d = refl
-    go true true false true c d = refl
-    go true true false false true d = refl
-    go true true false false false true = refl
-    go true true false false false false = refl
-
-dictionary-walk : (mode : ℕ) (tags : List ℕ) (i : ℕ) → ofWhole (walked mode tags i .refusal) ≡ false
-unfolding walked
-dictionary-walk mode tags zero = refl
-dictionary-walk mode tags (suc i) =
-    dictionary-step mode (wordCount tags - suc i) (wordAt tags i) (walked mode tags i) (dictionary-walk mode tags i)
-
-dictionary-not-whole : (mode : ℕ) (tags : List ℕ) → ofWhole (dictionaryNumber mode tags) ≡ false
-unfolding dictionaryNumber endNumber
-dictionary-not-whole mode tags =
-    let s = walked mode tags (wordCount tags) in
-    ofWhole-first (s .refusal) _ (dictionary-walk mode tags (wordCount tags))
-    (ofWhole-first (refuse (s .allowed .waiting) 10) _ (ofWhole-refuse (s .allowed .waiting) 10 refl)
-    (ofWhole-refuse (incomplete (s .sample)) 12 refl))
-
-dimmer-step : (tags : List ℕ) (i : ℕ) (s : DimmerWalk) → ofWhole (s .refusal) ≡ false → ofWhole (stepDimmer tags i s .refusal) ≡ false
-unfolding stepDimmer readDimmer dimmerTagNumber
-dimmer-step tags i s h = go (eqb (s .refusal) 0) (eqb (s .skip) 0) (badDimmerTag tags i) (clashingTag tags i (s .mapping))
-  where
-    go : (r k a b : Bool)
-        → ofWhole
-        (cond r
-        (cond k
-        (let n = first (refuse a 13) (refuse b 14) in
-        cond (eqb n 0) (record { refusal = 0; skip = operands (getD tags i 0); mapping = mappingWith tags i (s .mapping) }) (nothingMapped n))
-        (record { refusal = 0; skip = s .skip - 1; mapping = s .mapping }))
-        s .refusal)
-        ≡ false
-    go false k a b = h
-    go true false a b = refl
-    go true true true b = refl
-    go true true false true = refl
-    go true true false false = refl
-
-dimmer-walk : (tags : List ℕ) (i : ℕ) → ofWhole (dimmed tags i .refusal) ≡ false
-unfolding dimmed
-dimmer-walk tags zero = refl
-dimmer-walk tags (suc i) = dimmer-step tags i (dimmed tags i) (dimmer-walk tags i)
+ofWhole-first = first-holds NotWhole
 
 routing-not-whole : (mode service : ℕ) (tags : List ℕ) → ofWhole (routingNumber mode service tags) ≡ false
-unfolding routingNumber tagsNumber dimmerNumber
+unfolding routingNumber tagsNumber
 routing-not-whole mode service tags =
     ofWhole-first (refuse (not (knownMode mode)) 6) _ (ofWhole-refuse (not (knownMode mode)) 6 refl)
     (ofWhole-first (refuse (not (serviceFits mode service)) 7) _ (ofWhole-refuse (not (serviceFits mode service)) 7 refl)
     (go (graphicMode mode) (dimmerMode mode)))
   where
-    go : (a b : Bool) → ofWhole (cond a (dictionaryNumber mode tags) (cond b (dimmed tags (length tags) .refusal) 0)) ≡ false
-    go true b = dictionary-not-whole mode tags
-    go false true = dimmer-walk tags (length tags)
+    go : (a b : Bool) → ofWhole (cond a (dictionaryNumber mode tags) (cond b (dimmerNumber tags) 0)) ≡ false
+    go true b = dictionaryNumber-holds NotWhole refl refl refl refl refl refl mode tags
+    go false true = dimmerNumber-holds NotWhole refl refl refl tags
     go false false = refl
 
 -- the checks of a message on itself

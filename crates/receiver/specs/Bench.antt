@@ -1,4 +1,4 @@
--- The bench table of document 01, cases a to h, and a case of C-11, worked out by the definitions: each row has what the definitions
+-- The bench table of document 01, cases a to h, and cases of C-11 and C-16, worked out by the definitions: each row has what the definitions
 -- give and what the paper says, and one proof, by computation, says that they are equal.
 use mathlib.Core.Path.{refl}
 use Prim.Native.Nat.{ℕ, _+_, _/_, _%_}
@@ -97,6 +97,10 @@ tagsF′ = 0x43 ∷ 0x00 ∷ 0x01 ∷ 0x02 ∷ 0x43 ∷ 0x00 ∷ 0x03 ∷ 0x01 �
 tagsG : List ℕ
 tagsG = 0x42 ∷ 0x00 ∷ 0x42 ∷ 0x10 ∷ 0x52 ∷ 0x7E ∷ 0x00 ∷ 0x00 ∷ []
 
+-- C-16: X, Y, one colour and an unknown tag, four octets a sample
+tagsNewer : List ℕ
+tagsNewer = 0x42 ∷ 0x00 ∷ 0x42 ∷ 0x10 ∷ 0x52 ∷ 0x7E ∷ 0x42 ∷ 0x30 ∷ []
+
 -- ---- the table
 
 -- the row of numbers that a sample gives by these tags
@@ -151,11 +155,13 @@ table =
     -- g
     ∷ row (firstNumber (routingMessage 1 1 tagsG (zerosChunk 57)) ∷ firstNumber (routingMessage 1 1 tagsG (zerosChunk 60)) ∷ []) (pos 20 ∷ z ∷ [])
     ∷ row (firstNumber (routingMessage 2 2 tagsG (zerosChunk 0)) ∷ firstNumber (routingMessage 2 2 tagsG (zerosChunk 3)) ∷ []) (z ∷ pos 20 ∷ [])
-    -- h
+    -- h, its last case as C-16 has it: "4230 alone now gives 12"
     ∷ row (pos (dictionaryNumber 2 (0x40 ∷ 0x10 ∷ [])) ∷ pos (dictionaryNumber 2 (0x30 ∷ 0x00 ∷ [])) ∷ pos (dictionaryNumber 2 (0x42 ∷ 0x30 ∷ [])) ∷ [])
-    (pos 10 ∷ pos 8 ∷ pos 9 ∷ [])
+    (pos 10 ∷ pos 8 ∷ pos 12 ∷ [])
+    -- C-16: "The width, and with it each caller's sample count, includes ignored octets": 8 octets are two samples, 6 are not whole ones
+    ∷ row (firstNumber (routingMessage 2 2 tagsNewer (zerosChunk 8)) ∷ firstNumber (routingMessage 2 2 tagsNewer (zerosChunk 6)) ∷ []) (z ∷ pos 20 ∷ [])
     ∷ []
 
 pub bench : Agrees table
-unfolding routingMessage firstNumber zerosChunk sumsList bit messageA messageStart tagsB tagsC tagsD tagsE tagsF tagsF′ tagsG sampleRow slotIn litIs z rowsA replyTo table placeOf colourOf intensityOf waveOf slotOf slotsOf litAmong rowsOf litIn definedGroup isSingle reservedSpace knownTag slotFor misplaced repeated tagNumber roleFor sampleWith allowedAfter read step walked incomplete endNumber dictionaryNumber dictionarySample overlapsAny badDimmerTag clashingTag dimmerTagNumber mappingWith readDimmer stepDimmer dimmed dimmerNumber dimmerMapping countSum levelsFit tagsOf dataOf meant headerNumber tagsNumber routingNumber routeNumber heldElsewhere holderNumber closedNumber governs pointsOf litPointsOf levelsOf wholeOf sequelNumber matchNumber roomNumber drawNumber dimNumber contentNumber addedBy meterNumber wholeNumber inOrder numberOf replyOf drawn assemblyAfter slicesAfter sumsAfter gatheringAfter lookback gatheringBy workedOut judged
+unfolding routingMessage firstNumber zerosChunk sumsList bit messageA messageStart tagsB tagsC tagsD tagsE tagsF tagsF′ tagsG tagsNewer sampleRow slotIn litIs z rowsA replyTo table placeOf colourOf intensityOf waveOf slotOf slotsOf litAmong rowsOf litIn definedGroup isSingle reservedSpace knownTag slotFor misplaced repeated tagNumber roleFor sampleWith allowedAfter read step walked incomplete endNumber dictionaryNumber dictionarySample overlapsAny badDimmerTag clashingTag dimmerTagNumber mappingWith readDimmer stepDimmer dimmed dimmerNumber dimmerMapping countSum levelsFit tagsOf dataOf meant headerNumber tagsNumber routingNumber routeNumber heldElsewhere holderNumber closedNumber governs pointsOf litPointsOf levelsOf wholeOf sequelNumber matchNumber roomNumber drawNumber dimNumber contentNumber addedBy meterNumber wholeNumber inOrder numberOf replyOf drawn assemblyAfter slicesAfter sumsAfter gatheringAfter lookback gatheringBy workedOut judged
 bench = refl

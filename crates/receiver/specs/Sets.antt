@@ -16,7 +16,7 @@ use Rattle.receiver.specs.declared.SetReply.{SetReply}
 
 -- ---- one message of it
 
--- no slice is lent with a set; for a message of type 0x00 none counts (proofs/SetLaws.antt: void-number)
+-- no slice is lent with a set; for a message of type 0x00 none counts (proofs/SetLaws.antt: void-same)
 abbrev pub noneLent : Lent
 noneLent = lent 0 0 0
 

@@ -1,6 +1,8 @@
 pub mod Limits
 pub mod Roles
+pub mod RolesLaws
 pub mod Row
+pub mod IgnoredLaws
 pub mod Points
 pub mod PointsLaws
 pub mod Signals

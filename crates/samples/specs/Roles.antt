@@ -9,7 +9,7 @@ use mathlib.Core.List.{List, [], _∷_}
 use lib.ListN.{length}
 use lib.Dec.{ltb, eqb}
 
--- NOP: the octet is ignored
+-- the octet is ignored: that of a NOP, of an unknown tag, or of the precision behind one (document 02, C-16)
 abbrev pub ignored : ℕ
 ignored = 0
 

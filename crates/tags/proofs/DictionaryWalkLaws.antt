@@ -1,16 +1,14 @@
--- Laws for the functions of the dictionary walk: whether an octet has a role; arrays that hold 0 after what is used;
--- one word, and a refusal, which stays.
+-- Laws for the functions of the dictionary walk: arrays that hold 0 after what is used; one word, and a refusal, which stays.
 use Prim.Native.Nat.{ℕ, zero, suc, _+_, _-_, _≤_, zero-le}
 use native.Mathlib.Nat.{add-zero, add-suc, sub-zero}
 use native.Mathlib.Numerals.{add-one}
 use native.Mathlib.Omega.{arith}
-use mathlib.Core.Bool.{Bool, true, false, cond, _||_}
-use mathlib.Core.List.{List, _∷_}
+use mathlib.Core.Bool.{Bool, true, false, cond}
+use mathlib.Core.List.{List}
 use mathlib.Core.Path.{_≡_, refl, sym, _∙_}
-use lib.ListN.{length, replicate, length-replicate}
-use lib.Dec.{ltb, eqb, leb·zero, leb·suc-suc}
+use lib.ListN.{replicate, length-replicate}
+use lib.Dec.{eqb}
 use borrow.Author.Tests.{eq-eqb, ne-eqb}
-use Rattle.samples.specs.Roles.{has, placeOf}
 use Rattle.tags.specs.Limits.{octetLimit, colourLimit}
 use Rattle.tags.specs.Dictionary.{DictionaryWalk, nothingRead, repeated, tagNumber, read, step, wordAt, walked, wordCount, endNumber, dictionaryNumber, dictionarySample}
 use Rattle.tags.specs.DictionaryLaws.{passed-unrepeated}
@@ -18,16 +16,6 @@ use Rattle.tags.specs.Layout.{sampleOf, padded, layoutOf, emptyLayout, d
 use Rattle.tags.specs.DictionaryView.{Filled, wordNumber, pastTag, pastSkipped, advanced}
 use Rattle.tags.specs.declared.Layout.{Layout}
 use Rattle.tags.proofs.ArrayLaws.{length-used}
-
--- ---- whether an octet has a role: the first, or one after it
-
-place-test : (b : Bool) (n m : ℕ) → ltb (cond b 0 (suc n)) (suc m) ≡ (b || ltb n m)
-place-test true n m = leb·suc-suc 0 m ∙ leb·zero m
-place-test false n m = leb·suc-suc (suc n) m
-
-pub has-cons : (y : ℕ) (xs : List ℕ) (r : ℕ) → has (y ∷ xs) r ≡ (eqb y r || has xs r)
-unfolding placeOf
-has-cons y xs r = place-test (eqb y r) (placeOf r xs) (length xs)
 
 -- ---- a layout whose arrays hold 0 after what is used is that of its sample
 

@@ -1,7 +1,7 @@
 -- Laws about tests and about checks in a row, for every crate that puts checks in order.
 use mathlib.Core.Path.{_≡_, refl, sym, _∙_}
 use Prim.Native.Nat.{ℕ, zero, suc, _<_}
-use mathlib.Core.Bool.{Bool, true, false, false≢true, not, _&&_, _||_}
+use mathlib.Core.Bool.{Bool, true, false, false≢true, cond, not, _&&_, _||_}
 use mathlib.Core.Logic.{_⊎_, inl, inr}
 use native.Mathlib.Omega.{arith}
 use lib.Dec.{eqb, eqb·suc-zero}
@@ -29,7 +29,19 @@ or-false-left false b p = refl
 pub or-false-right : (a b : Bool) → (a || b) ≡ false → b ≡ false
 or-false-right a b p = rw (or-false-left a b p) at p
 
+-- what holds of both arms holds of the choice
+pub cond-holds : {A : Type 0} (P : A → Type 0) (b : Bool) {x y : A} → (b ≡ true → P x) → (b ≡ false → P y) → P (cond b x y)
+cond-holds P true f g = f refl
+cond-holds P false f g = g refl
+
 -- ---- checks in a row
+
+-- what holds of 0 and of a check's number holds of what the check gives, and what holds of two checks' numbers of the first that refuses
+pub refuse-holds : (P : ℕ → Type 0) (b : Bool) (n : ℕ) → P 0 → P n → P (refuse b n)
+refuse-holds P b n z h = cond-holds P b (λ _. h) (λ _. z)
+
+pub first-holds : (P : ℕ → Type 0) (n m : ℕ) → P n → P m → P (first n m)
+first-holds P n m h k = cond-holds P (eqb n 0) (λ _. k) (λ _. h)
 
 -- no refusal: neither the earlier check nor the later one refuses
 pub first-zero-left : (n m : ℕ) → first n m ≡ 0 → n ≡ 0

@@ -1,5 +1,5 @@
--- The dictionary check (document 01, "Tag dictionary, modes 1 and 2" and checks 8 to 12 in their order): the tags are taken one
--- by one; at each 8, 9, 10 and 11 are tried in turn, then the next tag; at the end an unfinished prefix is 10, then 12.
+-- The dictionary check (document 01, "Tag dictionary, modes 1 and 2" and checks 8 to 12 in their order; document 02, C-16): the tags are
+-- taken one by one; at each 8, 9, 10 and 11 are tried in turn, then the next tag; at the end an unfinished prefix is 10, then 12.
 use Prim.Native.Nat.{ℕ, zero, suc, _+_, _-_, _*_, _/_, _%_}
 use mathlib.Core.Bool.{Bool, false, cond, not, _&&_, _||_}
 use mathlib.Core.List.{List, [], _∷_, _++_}
@@ -8,7 +8,7 @@ use lib.Dec.{ltb, leb, eqb}
 use Rattle.samples.specs.Roles.{ignored, firstOf, precisionOf, hintOf, has}
 use Rattle.tags.specs.Limits.{octetLimit, colourLimit, tagOctetLimit}
 use Rattle.tags.specs.Choice.{refuse, first}
-use Rattle.tags.specs.Tag.{takesOctet, definedGroup, skips, isSpace, isPrecision, isHint, isColour, wavelength, isPrefixed, isPrefix, isSingle, knownTag, isSignal, slotFor}
+use Rattle.tags.specs.Tag.{takesOctet, definedGroup, isSpace, isPrecision, isHint, isColour, wavelength, isPrefixed, isPrefix, isSingle, refusedTag, skips, isUnknownOctet, isSignal, slotFor}
 
 -- What a dictionary says of a sample: a role for each octet, so as many roles as the sample has octets; the wavelength of each
 -- colour in dictionary order, 0 where a prefix gives it; and the space modifier's word, 0 if none.
@@ -30,7 +30,7 @@ pub record Allowed : Type 0 where
 abbrev pub nothingAllowed : Allowed
 nothingAllowed = record { precision = false; role = ignored; waiting = false }
 
--- The walk: the refusal, 0 so far; how many words a Void still skips; what the tag before allows; and the sample so far.
+-- The walk: the refusal, 0 so far; how many words are still skipped; what the tag before allows; and the sample so far.
 pub record DictionaryWalk : Type 0 where
   pub refusal : ℕ
   pub skip : ℕ
@@ -43,7 +43,8 @@ nothingRead n = record { refusal = n; skip = 0; allowed = nothingAllowed; sample
 
 -- ---- checks 10 and 11
 
--- check 10: "Precision, prefix or 5000 is misplaced, or a Void passes the end". `left` words stand after the tag.
+-- check 10: "Precision, prefix or 5000 is misplaced, or a Void passes the end"; C-16, "Skips past the end give 10", of an unknown tag as of
+-- a Void. `left` words stand after the tag.
 unfoldable pub misplaced : ℕ → ℕ → Allowed → Bool
 misplaced left w a =
     cond (isPrecision w) (not (a .precision))
@@ -63,13 +64,13 @@ repeated w s =
 unfoldable pub tagNumber : ℕ → ℕ → ℕ → DictionaryWalk → ℕ
 tagNumber mode left w s =
     first (refuse (not (definedGroup w)) 8)
-    (first (refuse (not (knownTag mode w)) 9)
+    (first (refuse (refusedTag mode w) 9)
     (first (refuse (misplaced left w (s .allowed)) 10)
     (refuse (repeated w (s .sample)) 11)))
 
 -- ---- a tag that passes
 
--- the role of its octet
+-- the role of its octet; that of a NOP and of an unknown tag is ignored
 unfoldable pub roleFor : ℕ → DictionaryWalk → ℕ
 roleFor w s =
     cond (isSignal w) (firstOf (slotFor w (length (s .sample .waves))))
@@ -85,11 +86,12 @@ sampleWith w s =
       space = cond (isSpace w) w (s .sample .space);
     }
 
--- what it allows directly after it: a precision after a signal, and after a prefix or its precision the 5000
+-- what it allows directly after it: a precision after a signal, an ignored one after an unknown tag with an octet, and after a prefix or
+-- its precision the 5000
 unfoldable pub allowedAfter : ℕ → DictionaryWalk → Allowed
 allowedAfter w s =
     record {
-      precision = isSignal w;
+      precision = isSignal w || isUnknownOctet w;
       role = cond (isSignal w) (precisionOf (slotFor w (length (s .sample .waves)))) ignored;
       waiting = isPrefix w || isPrecision w && s .allowed .waiting;
     }
@@ -103,7 +105,7 @@ read mode left w s =
     (record { refusal = 0; skip = skips w; allowed = allowedAfter w s; sample = sampleWith w s })
     (nothingRead (tagNumber mode left w s))
 
--- one word more: a refusal stays, a word that a Void skips is not read
+-- one word more: a refusal stays, a word that is skipped is not read
 unfoldable pub step : ℕ → ℕ → ℕ → DictionaryWalk → DictionaryWalk
 step mode left w s =
     cond (eqb (s .refusal) 0)

@@ -2,23 +2,16 @@
 use Prim.Native.Nat.{ℕ, zero, suc, _≤_}
 use mathlib.Core.Bool.{Bool, true, false, cond, not, _&&_, _||_}
 use mathlib.Core.List.{List, [], _∷_, _++_}
-use mathlib.Core.Path.{_≡_, refl}
+use mathlib.Core.Path.{_≡_}
 use native.Mathlib.Omega.{arith}
 use borrow.Author.Tests.{leb-false, eqb-true}
 use lib.ListN.{length, length-append}
 use lib.Dec.{leb, eqb, lit≤}
 use Rattle.tags.specs.Limits.{octetLimit, colourLimit}
 use Rattle.tags.specs.Choice.{refuse, first}
-use Rattle.tags.specs.ChoiceLaws.{or-false-left, or-false-right, first-zero-right, refuse-zero}
-use Rattle.tags.specs.Tag.{takesOctet, definedGroup, knownTag, isColour, wavelength}
+use Rattle.tags.specs.ChoiceLaws.{cond-holds, or-false-left, or-false-right, first-zero-right, refuse-zero}
+use Rattle.tags.specs.Tag.{takesOctet, definedGroup, isColour, wavelength, refusedTag}
 use Rattle.tags.specs.Dictionary.{Sample, DictionaryWalk, misplaced, repeated, tagNumber, roleFor, sampleWith, read, step, walked, wordCount, dictionaryNumber, dictionarySample}
-
--- ---- tests
-
--- what holds of both arms holds of the choice
-cond-holds : {A : Type 0} (P : A → Type 0) (b : Bool) {x y : A} → (b ≡ true → P x) → (b ≡ false → P y) → P (cond b x y)
-cond-holds P true f g = f refl
-cond-holds P false f g = g refl
 
 -- ---- a list with one element more
 
@@ -51,13 +44,13 @@ pub passed-unrepeated : (mode left w : ℕ) (s : DictionaryWalk) → tagNumber m
 unfolding tagNumber
 passed-unrepeated mode left w s p =
     let undefined = refuse (not (definedGroup w)) 8 in
-    let unknown = refuse (not (knownTag mode w)) 9 in
+    let refused = refuse (refusedTag mode w) 9 in
     let wrong = refuse (misplaced left w (s .allowed)) 10 in
     let again = refuse (repeated w (s .sample)) 11 in
     refuse-zero (repeated w (s .sample)) 11 (lit≤ tt)
     (first-zero-right wrong again
-    (first-zero-right unknown (first wrong again)
-    (first-zero-right undefined (first unknown (first wrong again)) p)))
+    (first-zero-right refused (first wrong again)
+    (first-zero-right undefined (first refused (first wrong again)) p)))
 
 -- ---- the walk
 

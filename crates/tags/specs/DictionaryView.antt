@@ -39,7 +39,7 @@ WalkFilled p roles waves = Filled octetLimit (p .width) roles × Filled colourLi
 
 -- ---- one word, while nothing is refused
 
--- the number that refuses it: a word that a Void skips is not read
+-- the number that refuses it: a word that is skipped is not read
 abbrev pub wordNumber : ℕ → ℕ → ℕ → DictionaryWalk → ℕ
 wordNumber mode left w s = cond (eqb (s .skip) 0) (tagNumber mode left w s) 0
 

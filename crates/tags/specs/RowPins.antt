@@ -80,6 +80,9 @@ rowTable =
     -- "4000 NOP (octet ignored)"
     ∷ row (rowBy 1 (0x4000 ∷ each least (λ w. w ∷ 0x4000 ∷ [])) (0xFF ∷ 0x01 ∷ 0xFF ∷ 0x02 ∷ 0xFF ∷ 0x03 ∷ 0xFF ∷ []))
     (pos 256 ∷ pos 512 ∷ z ∷ z ∷ z ∷ pos 1 ∷ z ∷ z ∷ pos 768 ∷ times 7 (z ∷ []) ++ (pos 40832 ∷ []) ++ times 7 (z ∷ []))
+    -- C-16: the octet of an unknown tag "is ignored, as is that of one precision tag directly behind it"
+    ∷ row (rowBy 2 (0x4230 ∷ each least (λ w. w ∷ 0x5C30 ∷ 0x4010 ∷ [])) (0xFF ∷ 0x01 ∷ 0xFF ∷ 0xFF ∷ 0x02 ∷ 0xFF ∷ 0xFF ∷ 0x03 ∷ 0xFF ∷ 0xFF ∷ []))
+    (pos 256 ∷ pos 512 ∷ z ∷ z ∷ z ∷ pos 1 ∷ z ∷ z ∷ pos 768 ∷ times 7 (z ∷ []) ++ (pos 40832 ∷ []) ++ times 7 (z ∷ []))
     -- "Absent signals are 0, except shutter, 1", in mode 2 as in mode 1
     ∷ row (rowBy 2 least (0 ∷ 0 ∷ 0 ∷ [])) (times 5 (z ∷ []) ++ (pos 1 ∷ []) ++ times 10 (z ∷ []) ++ (pos 40832 ∷ []) ++ times 7 (z ∷ []))
     -- "in coordinates the first octet is signed", without a precision octet as with one

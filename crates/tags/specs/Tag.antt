@@ -1,5 +1,5 @@
--- The tags of a dictionary (document 01, "Tag dictionary, modes 1 and 2"; 003, 3.4). A tag is a 16-bit word of four nibbles:
--- category, subcategory, identifier, parameter.
+-- The tags of a dictionary (document 01, "Tag dictionary, modes 1 and 2"; 003, 3.4; those that are not known: document 02, C-16). A tag
+-- is a 16-bit word of four nibbles: category, subcategory, identifier, parameter.
 use Prim.Native.Nat.{ℕ, _+_, _/_, _%_}
 use mathlib.Core.Bool.{Bool, cond, not, _&&_, _||_}
 use mathlib.Core.List.{List, [], _∷_}
@@ -25,10 +25,6 @@ definedGroup w =
 -- 000n Void
 abbrev pub isVoid : ℕ → Bool
 isVoid w = ltb w 16
-
--- how many words after it the tag skips: "the next n words are skipped unread", and none after a tag of another kind
-abbrev pub skips : ℕ → ℕ
-skips w = cond (isVoid w) w 0
 
 -- 11pp space modifier
 abbrev pub isSpace : ℕ → Bool
@@ -66,12 +62,35 @@ isSingle w =
 unfoldable pub reservedSpace : ℕ → Bool
 reservedSpace w = eqb (w / 64 % 4) 2 || eqb (w / 4 % 4) 2 || eqb (w % 4) 2
 
--- check 9 passes: the tag is known, its space values are not reserved, and 4101 stands only in mode 1
-unfoldable pub knownTag : ℕ → ℕ → Bool
-knownTag mode w =
-    isVoid w || isSpace w && not (reservedSpace w) || eqb w 0x4000 || isPrecision w
-    || eqb w 0x4100 || eqb w 0x4101 && eqb mode 1
-    || isSingle w || isColour w || isPrefix w
+-- "Tags known, in hexadecimal": all of them, whatever the mode and the space values
+unfoldable pub knownTag : ℕ → Bool
+knownTag w =
+    isVoid w || isSpace w || eqb w 0x4000 || isPrecision w || isHint w || isSingle w || isColour w || isPrefix w
+
+-- ---- what check 9 refuses, and what is passed over: C-16, "an unknown tag of a defined group is passed over"
+
+-- 100n Break
+abbrev pub isBreak : ℕ → Bool
+isBreak w = eqb (w / 16) 0x100
+
+-- "hint formats beyond 1": 4102 to 410F
+abbrev pub isNewerHint : ℕ → Bool
+isNewerHint w = eqb (w / 16) 0x410 && not (isHint w)
+
+-- check 9 refuses: "Break, hint formats beyond 1, hint 1 in mode 2 and reserved space values still give 9"
+abbrev pub refusedTag : ℕ → ℕ → Bool
+refusedTag mode w =
+    isBreak w || isNewerHint w || eqb w 0x4101 && not (eqb mode 1) || isSpace w && reservedSpace w
+
+-- how many words after it the tag skips: "000n Void: the next n words are skipped unread"; of an unknown tag "In group 0.0 its parameter
+-- gives the words to skip"; none after a tag of another group
+abbrev pub skips : ℕ → ℕ
+skips w = cond (eqb (w / 256) 0x00) (w % 16) 0
+
+-- an unknown tag with an octet, of those that 8 and 9 let through: "In categories 4 and 5 its octet is ignored, as is that of one precision tag
+-- directly behind it"
+abbrev pub isUnknownOctet : ℕ → Bool
+isUnknownOctet w = takesOctet w && not (knownTag w)
 
 -- ---- what an octet is for
 

@@ -1,5 +1,6 @@
 -- The numbers of document 01's "Tag dictionary", of checks 8 to 12 and of the host's call of the dictionary check ("Calls and layers")
 -- as a table: what the definitions give, and what the paper says. A definition and its code that were changed alike are refused here.
+-- Of C-16 it has which words are known, which give 9 and how many words a tag skips; what else an unknown tag does is in UnknownPins.antt.
 use mathlib.Core.Path.{refl}
 use Prim.Native.Nat.{ℕ, _+_, _*_, _/_, _%_}
 use mathlib.Core.List.{List, [], _∷_, _++_, map}
@@ -17,13 +18,13 @@ octetsOf [] = []
 octetsOf (w ∷ ws) = w / 256 ∷ w % 256 ∷ octetsOf ws
 
 -- the number of a dictionary of these words, and what the host's call returns for it
-refusalOf : ℕ → List ℕ → ℕ
+unfoldable pub refusalOf : ℕ → List ℕ → ℕ
 refusalOf mode ws = dictionaryNumber mode (octetsOf ws)
 
-answerTo : ℕ → List ℕ → ℕ
+unfoldable pub answerTo : ℕ → List ℕ → ℕ
 answerTo mode ws = hostCheck mode (octetsOf ws)
 
--- the words of the groups defined, but those of Void
+-- the words of the groups defined, but those of 0.0
 groupWords : List ℕ
 groupWords = span 0x1000 512 ++ span 0x4000 768 ++ span 0x5000 1024 ++ span 0x5C00 256
 
@@ -58,14 +59,24 @@ tagTable =
     (0x00 ∷ 0x10 ∷ 0x11 ∷ 0x40 ∷ 0x41 ∷ 0x42 ∷ 0x50 ∷ 0x51 ∷ 0x52 ∷ 0x53 ∷ 0x5C ∷ [])
     ∷ row (notRefusedBy (8 ∷ []) (λ g. refusalOf 2 ((g * 256 + 255) ∷ [])) (span 0 256))
     (0x00 ∷ 0x10 ∷ 0x11 ∷ 0x40 ∷ 0x41 ∷ 0x42 ∷ 0x50 ∷ 0x51 ∷ 0x52 ∷ 0x53 ∷ 0x5C ∷ [])
-    -- "000n Void"; the other tags known, in mode 1 and in mode 2
-    ∷ row (notRefusedBy (8 ∷ 9 ∷ []) (λ w. refusalOf 1 (w ∷ [])) (span 0 256)) (span 0 16)
-    ∷ row (notRefusedBy (8 ∷ 9 ∷ []) (λ w. refusalOf 1 (w ∷ [])) groupWords)
-    (spaceWords ++ (0x4000 ∷ 0x4010 ∷ 0x4100 ∷ 0x4101 ∷ 0x4200 ∷ 0x4201 ∷ 0x4210 ∷ 0x4211 ∷ 0x4220 ∷ []) ++ span 0x5000 1024
+    -- "Tags known, in hexadecimal", and no other word
+    ∷ row (passing knownTag (span 0 256 ++ groupWords))
+    (span 0 16 ++ span 0x1100 256 ++ (0x4000 ∷ 0x4010 ∷ 0x4100 ∷ 0x4101 ∷ 0x4200 ∷ 0x4201 ∷ 0x4210 ∷ 0x4211 ∷ 0x4220 ∷ []) ++ span 0x5000 1024
     ++ (0x5C00 ∷ 0x5C10 ∷ 0x5C20 ∷ []))
-    ∷ row (refusedBy (9 ∷ []) (λ w. refusalOf 2 (w ∷ [])) tags) (0x4101 ∷ [])
-    -- "the next n words are skipped unread", here of five that are in no group; "a Void passes the end"
-    ∷ row (map (λ n. refusalOf 1 (least ++ (n ∷ replicate 5 0x3000))) (span 0 16)) (replicate 5 8 ++ (0 ∷ []) ++ replicate 10 10)
+    -- C-16: "Break, hint formats beyond 1, hint 1 in mode 2 and reserved space values still give 9", and no other word of a group
+    ∷ row (notRefusedBy (8 ∷ 9 ∷ []) (λ w. refusalOf 1 (w ∷ [])) (span 0 256)) (span 0 256)
+    ∷ row (notRefusedBy (8 ∷ 9 ∷ []) (λ w. refusalOf 1 (w ∷ [])) groupWords)
+    (span 0x1010 240 ++ spaceWords ++ span 0x4000 256 ++ (0x4100 ∷ 0x4101 ∷ []) ++ span 0x4110 240 ++ span 0x4200 256 ++ span 0x5000 1024
+    ++ span 0x5C00 256)
+    ∷ row (notRefusedBy (8 ∷ 9 ∷ []) (λ w. refusalOf 2 (w ∷ [])) groupWords)
+    (span 0x1010 240 ++ spaceWords ++ span 0x4000 256 ++ (0x4100 ∷ []) ++ span 0x4110 240 ++ span 0x4200 256 ++ span 0x5000 1024
+    ++ span 0x5C00 256)
+    -- "the next n words are skipped unread", here of five that are in no group; "a Void passes the end"; C-16: "In group 0.0 its parameter
+    -- gives the words to skip", "Skips past the end give 10", whatever the identifier
+    ∷ row (each (span 0 16) (λ i. map (λ n. refusalOf 1 (least ++ ((i * 16 + n) ∷ replicate 5 0x3000))) (span 0 16)))
+    (each (span 0 16) (λ i. replicate 5 8 ++ (0 ∷ []) ++ replicate 10 10))
+    ∷ row (map (λ n. refusalOf 2 (least ++ (n ∷ replicate 15 0x3000))) (span 0 16 ++ span 0xF0 16))
+    (replicate 15 8 ++ (0 ∷ []) ++ replicate 15 8 ++ (0 ∷ []))
     -- "Precision stands directly after X, Y, Z, second X or Y, colour, intensity, brush or prefix, once"
     ∷ row (notRefusedBy (8 ∷ 9 ∷ 10 ∷ []) (λ w. refusalOf 1 (w ∷ 0x4010 ∷ [])) tags)
     (0x4200 ∷ 0x4201 ∷ 0x4210 ∷ 0x4211 ∷ 0x4220 ∷ 0x5001 ∷ 0x527E ∷ 0x53FF ∷ 0x5C10 ∷ 0x5C20 ∷ [])
@@ -81,7 +92,7 @@ tagTable =
     ∷ row (map (λ ws. refusalOf 1 (0x5C00 ∷ ws ++ (0x5000 ∷ []))) between) (replicate 5 10)
     ∷ row (map (λ ws. refusalOf 1 (0x5C00 ∷ 0x4010 ∷ ws ++ (0x5000 ∷ []))) between) (replicate 5 10)
     -- "a prefix followed wrongly is 10 at the tag behind it, after 8 and 9 there", and not at a tag further on
-    ∷ row (map (λ ws. refusalOf 1 (0x5C00 ∷ ws)) ((0x3000 ∷ []) ∷ (0x4230 ∷ []) ∷ (0x527E ∷ []) ∷ (0x527E ∷ 0x3000 ∷ []) ∷ []))
+    ∷ row (map (λ ws. refusalOf 1 (0x5C00 ∷ ws)) ((0x3000 ∷ []) ∷ (0x1000 ∷ []) ∷ (0x527E ∷ []) ∷ (0x527E ∷ 0x3000 ∷ []) ∷ []))
     (8 ∷ 9 ∷ 10 ∷ 10 ∷ [])
     -- "At the end an unfinished prefix is 10, then 12"
     ∷ row (map (refusalOf 1) ((0x5C00 ∷ []) ∷ (least ++ (0x5C00 ∷ [])) ∷ (least ++ (0x5C00 ∷ 0x4010 ∷ [])) ∷ [])) (10 ∷ 10 ∷ 10 ∷ [])
@@ -91,7 +102,7 @@ tagTable =
     ∷ row (map (refusalOf 1) ((0x4200 ∷ 0x5C00 ∷ 0x4200 ∷ []) ∷ (replicate 8 0x527E ++ (0x5000 ∷ [])) ∷ (replicate 32 0x4000 ++ (0x4010 ∷ [])) ∷ []))
     (10 ∷ 10 ∷ 10 ∷ [])
     -- ".. then the next tag": the first tag refused has the number
-    ∷ row (map (refusalOf 1) ((0x4010 ∷ 0x3000 ∷ []) ∷ (0x3000 ∷ 0x4010 ∷ []) ∷ (0x4230 ∷ 0x3000 ∷ []) ∷ (0x4200 ∷ 0x4200 ∷ 0x3000 ∷ []) ∷ []))
+    ∷ row (map (refusalOf 1) ((0x4010 ∷ 0x3000 ∷ []) ∷ (0x3000 ∷ 0x4010 ∷ []) ∷ (0x1000 ∷ 0x3000 ∷ []) ∷ (0x4200 ∷ 0x4200 ∷ 0x3000 ∷ []) ∷ []))
     (10 ∷ 8 ∷ 9 ∷ 11 ∷ [])
     -- "each other signal, one hint of either format and the space modifier at most once. NOP, Void and colours .. may repeat"
     ∷ row (refusedBy (11 ∷ []) (λ w. refusalOf 1 (w ∷ w ∷ [])) (span 0 16 ++ tags))
@@ -116,7 +127,7 @@ tagTable =
     ∷ row (map (λ mode. hostCheck mode (0 ∷ [])) (0 ∷ 1 ∷ 2 ∷ 3 ∷ 4 ∷ 6 ∷ [])) (106 ∷ 105 ∷ 105 ∷ 106 ∷ 106 ∷ 106 ∷ [])
     ∷ row (map (λ n. hostCheck 1 (replicate n 0x30)) (1 ∷ 2 ∷ 3 ∷ 1019 ∷ 1020 ∷ 1021 ∷ 1022 ∷ []))
     (105 ∷ 108 ∷ 105 ∷ 105 ∷ 108 ∷ 105 ∷ 105 ∷ [])
-    ∷ row (map (λ w. answerTo 2 (w ∷ [])) (0x3000 ∷ 0x4230 ∷ 0x4010 ∷ 0x527E ∷ [])) (108 ∷ 109 ∷ 110 ∷ 112 ∷ [])
+    ∷ row (map (λ w. answerTo 2 (w ∷ [])) (0x3000 ∷ 0x1000 ∷ 0x4010 ∷ 0x527E ∷ [])) (108 ∷ 109 ∷ 110 ∷ 112 ∷ [])
     ∷ []
 
 pub tag-pins : Agrees tagTable

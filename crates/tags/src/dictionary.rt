@@ -23,7 +23,7 @@ ghost use Rattle.tags.specs.DictionaryView.{allowedOf, gathered, diction
 
 // ---- checks 10 and 11
 
-// Check 10: `left` words stand after tag w, and a Void may skip no more.
+// Check 10: `left` words stand after tag w, and it may skip no more.
 fn misplaced(left: usize, w: u16, a: Allowed) -> bool
     ensures { λ r. ⌜ r ≡ misplaced left w (allowedOf a) ⌝ }
 {
@@ -82,8 +82,8 @@ fn tag_number(mode: u8, left: usize, w: u16, p: DictionaryWalk, roles: &[u8]) ->
     if !defined {
         return 8;
     }
-    let known = tag::known_tag(mode, w);
-    if !known {
+    let refused = tag::refused_tag(mode, w);
+    if refused {
         return 9;
     }
     let allowed = p.allowed;
@@ -100,7 +100,7 @@ fn tag_number(mode: u8, left: usize, w: u16, p: DictionaryWalk, roles: &[u8]) ->
 
 // ---- the walk
 
-// The number that refuses word w; a word that a Void skips is not read.
+// The number that refuses word w; a word that is skipped is not read.
 fn word_number(mode: u8, left: usize, w: u16, p: DictionaryWalk, roles: &[u8]) -> u8
     requires { ⌜ p .width ≤ length (now roles) ⌝ }
     ensures { λ r. ⌜ AnyWaves p (λ waves. r ≡ wordNumber mode left w (dictionaryWalkOf p (now (roles .entry)) waves)) ⌝ }

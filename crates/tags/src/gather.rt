@@ -20,7 +20,7 @@ pub struct Allowed {
     pub waiting: bool,
 }
 
-// The walk so far: how many words a Void still skips, what the tag before allows, and of the sample its octets, its colours and its space
+// The walk so far: how many words are still skipped, what the tag before allows, and of the sample its octets, its colours and its space
 // modifier. The arrays of roles and wavelengths stand beside it, so that a tag writes one element and moves nothing. Places and numbers of
 // octets and colours are 8-bit numbers wherever the walk has them; only an index is wider.
 pub struct DictionaryWalk {
@@ -144,7 +144,8 @@ pub fn space_with(w: u16, space: u16) -> u16
     space
 }
 
-// What it allows directly after it: a precision after a signal, and after a prefix or its precision the 5000.
+// What it allows directly after it: a precision after a signal, an ignored one after an unknown tag with an octet, and after a prefix or
+// its precision the 5000.
 pub fn allowed_after(w: u16, p: DictionaryWalk) -> Allowed
     requires { ⌜ p .colours ≤ colourLimit ⌝ }
     ensures { λ r. ⌜ AnyWaves p (λ waves. (roles : List ℕ) → allowedOf r ≡ allowedAfter w (dictionaryWalkOf p roles waves)) ⌝ }
@@ -160,7 +161,7 @@ pub fn allowed_after(w: u16, p: DictionaryWalk) -> Allowed
         };
     }
     Allowed {
-        precision: false,
+        precision: tag::is_unknown_octet(w),
         role: IGNORED,
         waiting,
     }

@@ -2,7 +2,7 @@
 ghost use mathlib.Core.Path.{_≡_};
 ghost use Prim.Native.Nat.{_+_, _*_, _≤_};
 ghost use Rattle.tags.specs.Limits.{colourLimit};
-ghost use Rattle.tags.specs.Tag.{takesOctet, definedGroup, skips, isColour, isSingle, isSignal, reservedSpace, knownTag, slotFor};
+ghost use Rattle.tags.specs.Tag.{takesOctet, definedGroup, isColour, isSingle, isSignal, reservedSpace, knownTag, refusedTag, skips, isUnknownOctet, slotFor};
 
 // Which of the sixteen categories take an octet of the sample: 4 and 5 do.
 const OCTETS: [u8; 16] = [0, 0, 0, 0, 1, 1, 0, 0, 0, 0, 0, 0, 0, 0, 0, 0];
@@ -82,19 +82,40 @@ pub fn reserved_space(w: u16) -> bool
     (w / 64 % 4 == 2) | (w / 4 % 4 == 2) | (w % 4 == 2)
 }
 
-// 4101, the hint with the shutter, is known in mode 1 alone.
-pub fn known_tag(mode: u8, w: u16) -> bool
-    ensures { λ r. ⌜ r ≡ knownTag mode w ⌝ }
+// The tags that document 01 lists, whatever the mode and the space values.
+pub fn known_tag(w: u16) -> bool
+    ensures { λ r. ⌜ r ≡ knownTag w ⌝ }
 {
     (w < 16)
-        | ((w / 256 == SPACE) & !reserved_space(w))
+        | (w / 256 == SPACE)
         | (w == 0x4000)
         | (w == PRECISION)
-        | (w == 0x4100)
-        | ((w == 0x4101) & (mode == 1))
+        | (w / 2 == HINTS)
         | is_single(w)
         | is_colour(w)
         | (w == PREFIX)
+}
+
+// Check 9: Break, hint formats beyond 1, 4101 in another mode than 1, reserved space values. Every other tag of a defined group is known or
+// passed over.
+pub fn refused_tag(mode: u8, w: u16) -> bool
+    ensures { λ r. ⌜ r ≡ refusedTag mode w ⌝ }
+{
+    (w / 16 == 0x100)
+        | ((w / 16 == 0x410) & !(w / 2 == HINTS))
+        | ((w == 0x4101) & !(mode == 1))
+        | ((w / 256 == SPACE) & reserved_space(w))
+}
+
+// An unknown tag whose octet is ignored, and with it that of a precision directly behind it, of those that 8 and 9 let through. Of the tags
+// that are asked about precision is the most frequent, so it is answered first.
+pub fn is_unknown_octet(w: u16) -> bool
+    ensures { λ r. ⌜ r ≡ isUnknownOctet w ⌝ }
+{
+    if w == PRECISION {
+        return false;
+    }
+    takes_octet(w) & !known_tag(w)
 }
 
 // The row's slot of a signal, where the dictionary has `colours` colours so far.
@@ -130,12 +151,12 @@ pub fn slot_for(w: u16, colours: u8) -> u8
     colours + 8
 }
 
-// How many words after it a Void skips; a tag of another kind skips none.
+// How many words after it a tag of group 0.0 skips, a Void or an unknown one: its parameter. A tag of another group skips none.
 pub fn skipped_by(w: u16) -> u16
     ensures { λ r. ⌜ r ≡ skips w ⌝ }
 {
-    if w < 16 {
-        return w;
+    if w / 256 == 0x00 {
+        return w % 16;
     }
     0
 }

@@ -12,11 +12,11 @@ use Rattle.tags.proofs.dictionary.tag_number.Tie as tie
 
 -- ---- the steps, each from the one after it
 
-abbrev known-at : tie.After-misplaced → tie.Else2
-known-at c = c .before .before
+abbrev allowed-at : tie.After-misplaced → tie.Else2
+allowed-at c = c .before .before
 
 abbrev defined-at : tie.After-misplaced → tie.Else1
-defined-at c = known-at c .before .before
+defined-at c = allowed-at c .before .before
 
 abbrev start-of : tie.After-misplaced → tie.Start
 start-of c = defined-at c .before .before .before
@@ -34,7 +34,7 @@ returns-2 : tie.Need-returns-2
 unfolding tagNumber
 returns-2 c = λ waves used.
     let d = c .before .before in
-    rw (← (d .before .defined-group .ensures), d .if1 .left, ← (c .before .known-tag .ensures), c .if2 .taken)
+    rw (← (d .before .defined-group .ensures), d .if1 .left, sym (c .before .refused-tag .ensures) ∙ c .if2 .taken)
 
 abbrev number : tie.Start → List ℕ → ℕ
 number s waves = tagNumber (s .args .mode) (s .args .left) (s .args .w) (dictionaryWalkOf (s .args .p) (s .args .roles .now) waves)
@@ -44,26 +44,25 @@ abbrev next : tie.Start → List ℕ → Bool → ℕ
 next s waves wrong =
     first (refuse wrong 10) (refuse (repeated (s .args .w) (dictionaryWalkOf (s .args .p) (s .args .roles .now) waves .sample)) 11)
 
-after-known : (c : tie.After-misplaced) (waves : List ℕ) → number (start-of c) waves ≡ next (start-of c) waves (c .misplaced .result)
+after-refused : (c : tie.After-misplaced) (waves : List ℕ) → number (start-of c) waves ≡ next (start-of c) waves (c .misplaced .result)
 unfolding tagNumber
-after-known c waves =
-    let k = known-at c in
+after-refused c waves =
+    let k = allowed-at c in
     let d = defined-at c in
     rw (
       ← (d .before .defined-group .ensures),
       d .if1 .left,
-      ← (k .before .known-tag .ensures),
-      k .if2 .left,
+      sym (k .before .refused-tag .ensures) ∙ k .if2 .left,
       ← (c .misplaced .ensures),
     )
 
 returns-3 : tie.Need-returns-3
-returns-3 c = λ waves used. sym (after-known (c .before) waves ∙ ap (next (start-of (c .before)) waves) (c .if3 .taken))
+returns-3 c = λ waves used. sym (after-refused (c .before) waves ∙ ap (next (start-of (c .before)) waves) (c .if3 .taken))
 
 last : (c : tie.After-repeated) (again : Bool) → c .repeated .result ≡ again
     → AnyWaves (start-of (misplaced-at c) .args .p) (λ waves. number (start-of (misplaced-at c)) waves ≡ refuse again 11)
 last c again e = λ waves used.
-    after-known (misplaced-at c) waves ∙ ap (next (start-of (misplaced-at c)) waves) (c .before .if3 .left)
+    after-refused (misplaced-at c) waves ∙ ap (next (start-of (misplaced-at c)) waves) (c .before .if3 .left)
     ∙ ap (λ b. refuse b 11) (sym (c .repeated .ensures waves used) ∙ e)
 
 returns-4 : tie.Need-returns-4

@@ -12,8 +12,10 @@ returns c = λ waves used roles.
 
 returns-2 : tie.Need-returns-2
 unfolding allowedAfter
-returns-2 c = λ waves used roles. rw (sym (c .before .is-signal .ensures) ∙ c .if1 .left)
+returns-2 c = λ waves used roles.
+    rw (sym (c .before .before .is-signal .ensures) ∙ c .before .if1 .left, c .is-unknown-octet .ensures)
 
 pub allowed-after-spec : {M : Type 1} → statement M
 allowed-after-spec =
-    tie.close (tie.spec (λ c κs. search needs) (λ c κs. search needs) (λ c. search needs) returns returns-2)
+    tie.close
+    (tie.spec (λ c κs. search needs) (λ c κs. search needs) (λ c. search needs) returns (λ c κs. search needs) returns-2)

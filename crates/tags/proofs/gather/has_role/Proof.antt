@@ -10,7 +10,7 @@ use lib.ListN.{getD, take}
 use lib.Dec.{eqb}
 use lib.Seq.{slice, slice-empty, slice-cons}
 use Rattle.samples.specs.Roles.{placeOf, has}
-use Rattle.tags.proofs.DictionaryWalkLaws.{has-cons}
+use Rattle.samples.specs.RolesLaws.{has-cons}
 use Rattle.tags.proofs.gather.has_role.Statement.{statement}
 use Rattle.tags.proofs.gather.has_role.Tie as tie
 

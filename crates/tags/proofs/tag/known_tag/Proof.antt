@@ -6,7 +6,7 @@ use Rattle.tags.proofs.tag.known_tag.Tie as tie
 
 returns : tie.Need-returns
 unfolding knownTag
-returns c = rw (c .before .before .reserved-space .ensures, c .before .is-single .ensures, c .is-colour .ensures)
+returns c = rw (c .before .is-single .ensures, c .is-colour .ensures)
 
 pub known-tag-spec : {M : Type 1} → statement M
-known-tag-spec = tie.close (tie.spec (λ c κs. search needs) (λ c κs. search needs) (λ c κs. search needs) returns)
+known-tag-spec = tie.close (tie.spec (λ c κs. search needs) (λ c κs. search needs) returns)
