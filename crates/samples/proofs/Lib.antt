@@ -1,3 +1,4 @@
+pub mod IgnoredLaws
 pub mod RoleLaws
 pub mod TemplateLaws
 pub mod SignalLaws

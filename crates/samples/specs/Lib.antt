@@ -2,7 +2,6 @@ pub mod Limits
 pub mod Roles
 pub mod RolesLaws
 pub mod Row
-pub mod IgnoredLaws
 pub mod Points
 pub mod PointsLaws
 pub mod Signals

@@ -1,4 +1,6 @@
 // Samples to rows: each point of a chunk as a row of numbers (document 01, "One row").
+#![tactic(auto)]
+
 pub mod limits;
 mod octets;
 mod places;

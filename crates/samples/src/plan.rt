@@ -11,7 +11,7 @@ use super::{octets, places, roles, signals, waves};
 
 // The places of the octets whose slots stand alone, a place at or past the sample's end where there is none; whether the hint gives
 // the shutter; and whether there is any of these three slots to be stored.
-#[derive(Drop)]
+#[derive(Clone, Copy)]
 pub struct Singles {
     pub hint: usize,
     pub shutter: bool,
@@ -23,7 +23,7 @@ pub struct Singles {
 }
 
 // A chunk's plan: the row of a sample without octets, and the signals of each kind.
-#[derive(Drop)]
+#[derive(Clone, Copy)]
 pub struct Plan {
     pub template: [i32; ROW],
     pub coordinates: Kind,

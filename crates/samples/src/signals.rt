@@ -19,7 +19,7 @@ pub const COUNT: usize = 24;
 pub const LIST: usize = 25;
 
 // The signals of one kind, with a precision octet and without.
-#[derive(Drop)]
+#[derive(Clone, Copy)]
 pub struct Kind {
     pub fine: [u8; LIST],
     pub coarse: [u8; LIST],

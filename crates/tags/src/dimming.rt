@@ -11,7 +11,7 @@ use crate::{Dimmer, Mapped};
 
 // What the tags so far say: the base of a 42, 0 without one, and how many subsets there are. The arrays of the subsets' bases and counts
 // stand beside it, so that a 43 writes one element of each and moves nothing.
-#[derive(Drop)]
+#[derive(Clone, Copy)]
 struct DimmerWalk {
     base: u16,
     count: u8,

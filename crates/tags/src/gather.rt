@@ -10,7 +10,7 @@ use super::tag;
 
 // What the tag directly before allows: whether a precision may stand here, and the role that its octet then has; and whether a prefix
 // waits for its 5000.
-#[derive(Drop)]
+#[derive(Clone, Copy)]
 pub struct Allowed {
     pub precision: bool,
     pub role: u8,
@@ -20,7 +20,7 @@ pub struct Allowed {
 // The walk so far: how many words are still skipped, what the tag before allows, and of the sample its octets, its colours and its space
 // modifier. The arrays of roles and wavelengths stand beside it, so that a tag writes one element and moves nothing. Places and numbers of
 // octets and colours are 8-bit numbers wherever the walk has them; only an index is wider.
-#[derive(Drop)]
+#[derive(Clone, Copy)]
 pub struct DictionaryWalk {
     pub skip: u16,
     pub allowed: Allowed,
