@@ -1,7 +1,7 @@
 -- Laws about the answer to a message: judged on itself, its fragment taken, the whole tried and drawn and the record settled, it meets the
 -- contract.
 use mathlib.Core.Path.{◌≡◌, refl, sym, ap, subst, ◌∙◌}
-use Prim.Native.Nat.{ℕ, zero, ◌+◌, ◌<◌, ◌≤◌, ◌^◌}
+use Prim.Native.Nat.{ℕ, ◌+◌, ◌<◌, ◌≤◌, ◌^◌}
 use mathlib.Core.Bool.{Bool, true, false, cond, and-false, ◌&&◌}
 use mathlib.Core.List.{List}
 use native.Mathlib.Nat.{add-zero}

@@ -8,7 +8,8 @@ use mathlib.Core.List.{List}
 use Prim.Native.Nat.{ℕ}
 use lib.IntN.{ℤ}
 use contract.Lifetimes.{Lfts}
-use denote.Ref.{Bor}
+use denote.Ref.{Bor, MutBor}
+use denote.MutBor.{as_bor}
 use Rattle.receiver.specs.Slices.{Slices, slices, lengths}
 use Rattle.receiver.specs.Meters.{Sums}
 use Rattle.receiver.specs.Record.{record_in, sized}
@@ -35,9 +36,9 @@ use Rattle.receiver.proofs.place.mewkoast_readings_on.Reads as readings_on_reads
 
 -- a record that a host lends: references to its octets, its meters and the numbers of what is gathered
 pub record RecordRefs : Type 0 where
-  pub channels : Bor (List ℕ)
-  pub meters : Bor (List ℕ)
-  pub gathered : Bor (List ℕ)
+  pub channels : MutBor (List ℕ)
+  pub meters : MutBor (List ℕ)
+  pub gathered : MutBor (List ℕ)
 
 -- what they hold
 abbrev pub kept : RecordRefs → Receiver
@@ -55,9 +56,9 @@ pub data StartCall (s : Sums) (o : Outcome) : Type 0 where
 
 -- the slices lent with a call, at its beginning or at its end
 pub record SliceRefs : Type 0 where
-  pub rows : Bor (List ℤ)
-  pub levels : Bor (List ℕ)
-  pub assembly : Bor (List ℕ)
+  pub rows : MutBor (List ℤ)
+  pub levels : MutBor (List ℕ)
+  pub assembly : MutBor (List ℕ)
 
 -- what they hold
 abbrev pub held : SliceRefs → Slices
@@ -79,14 +80,14 @@ pub data SetCall (r : Receiver) (octets : Bor (List ℕ)) (o : SetOutcome) : Typ
   rattle : (κs : Lfts 1) → patch_reads.Learnt κs (r, (octets, tt)) o (r, (octets, tt)) → SetCall r octets o
   c : (κs : Lfts 1) → c_patch_reads.Learnt κs (r, (octets, tt)) o (r, (octets, tt)) → SetCall r octets o
   in_place : (κs : Lfts 4) (at next : RecordRefs) → kept at ≡ r → next.meters.now ≡ at.meters.now
-      → patch_on_reads.Learnt κs (at.channels, (at.meters, (at.gathered, (octets, tt)))) o.reply (next.channels, (at.meters, (next.gathered, (octets, tt))))
+      → patch_on_reads.Learnt κs (at.channels, (as_bor at.meters, (at.gathered, (octets, tt)))) o.reply (next.channels, (as_bor at.meters, (next.gathered, (octets, tt))))
       → o.receiver ≡ kept next → SetCall r octets o
 
 pub data ReadingsCall (r : Receiver) (q : Readings) : Type 0 where
   rattle : (κs : Lfts 0) → readings_reads.Learnt κs (r, tt) q (r, tt) → ReadingsCall r q
   c : (κs : Lfts 0) → c_readings_reads.Learnt κs (r, tt) q (r, tt) → ReadingsCall r q
   in_place : (κs : Lfts 1) (at : RecordRefs) → kept at ≡ r
-      → readings_on_reads.Learnt κs (at.meters, tt) q (at.meters, tt) → ReadingsCall r q
+      → readings_on_reads.Learnt κs (as_bor at.meters, tt) q (as_bor at.meters, tt) → ReadingsCall r q
 
 -- ---- each way a caller learns the same
 

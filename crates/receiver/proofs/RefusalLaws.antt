@@ -8,13 +8,13 @@ use borrow.Author.Tests.{eqb-false}
 use Rattle.tags.specs.ChoiceLaws.{or-false_left, or-false_right}
 use Rattle.receiver.specs.Message.{type_of, is_last}
 use Rattle.receiver.specs.Governing.{Configuration}
-use Rattle.receiver.specs.Slices.{Slices, slices}
+use Rattle.receiver.specs.Slices.{Slices}
 use Rattle.receiver.specs.Chunk.{is_fragment}
 use Rattle.receiver.specs.Checks.{governs, own_number}
 use Rattle.receiver.specs.Effects.{bare_reply, reply_of, of_whole, takes, assembly_after, slices_after, sums_after, governing_after, gathering_after}
 use Rattle.receiver.specs.Record.{standing_of, channels_of, consistent}
 use Rattle.receiver.specs.Contract.{outcome, changes, AnsweredWith, Answered}
-use Rattle.receiver.specs.Steps.{Governed, own_number_of, taken}
+use Rattle.receiver.specs.Steps.{Governed, own_number_of}
 use Rattle.receiver.specs.declared.Receiver.{Receiver}
 use Rattle.receiver.specs.declared.route.Found.{Found}
 use Rattle.receiver.proofs.CheckLaws.{OwnPassed, own-passed}

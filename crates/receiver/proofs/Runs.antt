@@ -7,7 +7,7 @@ use mathlib.Core.Bool.{Bool, true, false, true≢false, false≢true}
 use mathlib.Core.List.{List, [], ◌∷◌, map, reverse, reverse_aux, reverse-reverse}
 use lib.ListN.{length, get_or}
 use borrow.Author.Tests.{eq-eqb}
-use denote.Ref.{Bor}
+use denote.Ref.{Bor, MutBor}
 use Rattle.receiver.specs.Slices.{Slices, slices, lent, lengths}
 use Rattle.receiver.specs.Meters.{Sums}
 use Rattle.receiver.specs.Effects.{bare_reply}
@@ -55,11 +55,14 @@ called_at n (set octets below way) = Called.set octets
 ref_to : {X : Type 0} → X → Bor X
 ref_to x = record { ref_ptr = (0, 0); now = x }
 
+mut_to : {X : Type 0} → X → MutBor X
+mut_to x = record { ref_ptr = (0, 0); ghost_name = 0; now = x }
+
 refs_to : Slices → SliceRefs
-refs_to s = record { rows = ref_to s.rows; levels = ref_to s.levels; assembly = ref_to s.assembly }
+refs_to s = record { rows = mut_to s.rows; levels = mut_to s.levels; assembly = mut_to s.assembly }
 
 record_to : Receiver → RecordRefs
-record_to r = record { channels = ref_to r.channels; meters = ref_to r.meters; gathered = ref_to r.gathered }
+record_to r = record { channels = mut_to r.channels; meters = mut_to r.meters; gathered = mut_to r.gathered }
 
 sized_fresh : (s : Sums) → Sized (fresh s)
 sized_fresh s = record { channels = length-fresh; meters = refl; gathered = refl }
@@ -68,7 +71,7 @@ start-outcome : Sums → Outcome
 start-outcome s = outcome (fresh (starting_sums s)) (bare_reply (start_number s))
 
 start-call : (way : Way) (s : Sums) → StartCall s (start-outcome s)
-unfolding start-outcome ref_to record_to
+unfolding start-outcome mut_to record_to
 start-call in_rattle s = StartCall.rattle tt (started-fresh s)
 start-call from_c s = StartCall.c tt (started-fresh s)
 start-call in_place s =
@@ -79,7 +82,7 @@ start-call in_place s =
 
 message-call : (way : Way) {r : Receiver} {octets : Bor (List ℕ)} {lent : SliceRefs} {o : Outcome} {left : SliceRefs}
     → Answered r octets.now (held lent) o (held left) → MessageCall r octets lent o left
-unfolding ref_to record_to
+unfolding mut_to record_to
 message-call in_rattle meets = MessageCall.rattle ([], ([], ([], ([], tt)))) meets
 message-call from_c meets = MessageCall.c ([], ([], ([], ([], tt)))) meets
 message-call in_place {r} {octets} {lent} {o} meets =
@@ -88,7 +91,7 @@ message-call in_place {r} {octets} {lent} {o} meets =
 -- a set in place leaves the meters that were lent
 set-call : (way : Way) {r : Receiver} {octets : Bor (List ℕ)} {o : SetOutcome} → o.receiver.meters ≡ r.meters
     → Patched r octets.now o → SetCall r octets o
-unfolding ref_to record_to
+unfolding mut_to record_to
 set-call in_rattle same meets = SetCall.rattle ([], tt) meets
 set-call from_c same meets = SetCall.c ([], tt) meets
 set-call in_place {r} {octets} {o} same meets =
@@ -104,7 +107,7 @@ record Made (r : Receiver) (c : Called) : Type 0 where
   sized : Sized next
 
 make : (r : Receiver) → Sized r → (c : Call) → Made r (called_of c)
-unfolding ref_to refs_to
+unfolding ref_to mut_to refs_to
 make r z (message octets below s way) =
     let given = answer r z octets below s in
     record {
@@ -183,7 +186,7 @@ record MadeAt (r : Receiver) (a : List ℕ) (c : Called) : Type 0 where
   length : length (left_after made.step a) ≡ length a
 
 make_at : (r : Receiver) → Sized r → (a : List ℕ) (c : Call) → MadeAt r a (called_at (length a) c)
-unfolding make ref_to refs_to Lends left_after
+unfolding make ref_to mut_to refs_to Lends left_after
 make_at r z a (message octets below s way) =
     let s₀ = slices s.rows s.levels a in
     let given = answer r z octets below s₀ in

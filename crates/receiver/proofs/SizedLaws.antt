@@ -11,7 +11,6 @@ use lib.Dec.{eqb}
 use borrow.Author.Tests.{eqb-true, eq-eqb}
 use Rattle.tags.specs.ChoiceLaws.{and_left, and_right}
 use Rattle.receiver.specs.Modes.{channel_count}
-use Rattle.receiver.specs.Slices.{lengths}
 use Rattle.receiver.specs.Meters.{Sums, sums, over_limit}
 use Rattle.receiver.specs.Record.{record_size, meter_count, gathered_count, sums_of, consistent_up_to, sized, consistent}
 use Rattle.receiver.specs.Contract.{readings_of}

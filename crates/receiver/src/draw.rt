@@ -18,7 +18,7 @@ use super::{Config, Readings};
 use tags::kept::{AREA, dimmer_in, layout_in};
 
 // What an accepted chunk wrote: the lit time, points and lit points that it adds to the meters, and the levels.
-#[derive(Drop)]
+#[derive(Clone, Copy)]
 pub struct Counts {
     pub lit_time: u64,
     pub points: u32,
@@ -27,7 +27,7 @@ pub struct Counts {
 }
 
 // What a message is answered with, and its counts.
-#[derive(Drop)]
+#[derive(Clone, Copy)]
 pub struct Done {
     pub number: u8,
     pub counts: Counts,

@@ -20,7 +20,7 @@ const MOST: usize = 1_000_000_000;
 
 // What the record holds of the frame: state 0 is no frame, and a channel plus 1 is one on that channel; how many of its octets stand at the
 // start of the assembly slice; the timestamp of its first fragment; and the number of the next sequel, as far as 32 bits tell it.
-#[derive(Drop)]
+#[derive(Clone, Copy)]
 pub struct Gathered {
     pub state: u32,
     pub count: u32,

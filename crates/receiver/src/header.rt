@@ -14,7 +14,7 @@ pub(crate) const LEAST: usize = 8;
 
 const LARGEST: usize = 65280;
 
-#[derive(Drop)]
+#[derive(Clone, Copy)]
 pub struct Header {
     pub channel: ChannelId,
     pub chunk_type: u8,

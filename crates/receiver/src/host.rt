@@ -10,7 +10,7 @@ use super::{Outcome, Readings, Receiver, SetOutcome, section};
 
 // Where the data section stands in a message: its first octet and its length. A part of a slice cannot be returned to C.
 #[repr(C)]
-#[derive(Drop)]
+#[derive(Clone, Copy)]
 pub struct Span {
     pub start: usize,
     pub length: usize,

@@ -1,4 +1,6 @@
 // The channel receiver: messages in, replies, rows, levels and three meters out. It stands on the tag layer's promises.
+#![tactic(auto)]
+
 mod channels;
 mod chunk;
 mod draw;
@@ -18,17 +20,17 @@ use record::{GATHERED, METERS, RECORD};
 
 // A channel's identifier, six bits of a message. A type of its own, so that no service identifier is taken for one.
 #[repr(C)]
-#[derive(Drop)]
+#[derive(Clone, Copy)]
 pub struct ChannelId(pub u8);
 
 // A service's identifier.
 #[repr(C)]
-#[derive(Drop)]
+#[derive(Clone, Copy)]
 pub struct ServiceId(pub u8);
 
 // What the call of a message answers. A refusal has 0 in all but the number.
 #[repr(C)]
-#[derive(Drop)]
+#[derive(Clone, Copy)]
 pub struct Reply {
     pub number: u8,
     pub channel: ChannelId,
@@ -42,7 +44,7 @@ pub struct Reply {
 
 // What the record holds of one channel besides its area: state 0 is closed, and a mode plus 1 is open in that mode; the sizes are the tag
 // layer's. The area stands by itself, because a struct that holds it is copied from function to function.
-#[derive(Drop)]
+#[derive(Clone, Copy)]
 pub struct Config {
     pub state: u8,
     pub match_bits: u8,
@@ -53,7 +55,7 @@ pub struct Config {
 // The receiver: three meters, four numbers of the frame that is being gathered, as gather.rt has them, and the octets of 64 channels as
 // channels.rt has their places. A C host can hold it, as a value or to lend its three arrays; nothing else is stored.
 #[repr(C)]
-#[derive(Drop)]
+#[derive(Clone, Copy)]
 pub struct Receiver {
     pub meters: [u64; METERS],
     pub gathered: [u32; GATHERED],
@@ -62,7 +64,7 @@ pub struct Receiver {
 
 // What a call of start or message hands back: the next receiver beside the reply.
 #[repr(C)]
-#[derive(Drop)]
+#[derive(Clone, Copy)]
 pub struct Outcome {
     pub receiver: Receiver,
     pub reply: Reply,
@@ -71,7 +73,7 @@ pub struct Outcome {
 // What the call of a set answers (C-14): the place of the first refused message, counted from 0, and its number; or how many there were and
 // 0.
 #[repr(C)]
-#[derive(Drop)]
+#[derive(Clone, Copy)]
 pub struct SetReply {
     pub place: usize,
     pub number: u8,
@@ -79,7 +81,7 @@ pub struct SetReply {
 
 // What that call hands back: the next receiver beside the reply.
 #[repr(C)]
-#[derive(Drop)]
+#[derive(Clone, Copy)]
 pub struct SetOutcome {
     pub receiver: Receiver,
     pub reply: SetReply,
@@ -87,7 +89,7 @@ pub struct SetOutcome {
 
 // The three meters as they stand: lit microseconds, points, lit points.
 #[repr(C)]
-#[derive(Drop)]
+#[derive(Clone, Copy)]
 pub struct Readings {
     pub lit_time: u64,
     pub points: u64,

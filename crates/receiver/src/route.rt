@@ -8,7 +8,7 @@ use super::{Config, ServiceId};
 use tags::kept::{AREA, keep_dimmer, keep_layout};
 
 // A number, and where it is 0 what governs.
-#[derive(Drop)]
+#[derive(Clone, Copy)]
 pub struct Found {
     pub number: u8,
     pub config: Config,
