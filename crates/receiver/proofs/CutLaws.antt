@@ -3,7 +3,7 @@
 -- fits one. And where the last fragment is refused because the whole is, by 20, 22 or 23, that message is refused by the same number.
 --     Begins, Gathers, Ends       the fragments, offered one after the other after any judged messages
 --     SameFrame                   the one message
---     cut-as-whole                the law, as the record SameAsWhole
+--     cut_as_whole                the law, as the record SameAsWhole
 -- That the fragments of such a message are not refused is in FragmentLaws.antt.
 use mathlib.Core.Path.{◌≡◌, refl, sym, ap, ◌∙◌}
 use Prim.Native.Nat.{ℕ, zero, suc}

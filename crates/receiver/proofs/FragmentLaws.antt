@@ -4,7 +4,7 @@
 -- last is answered as the one message.
 --     Frame                       the one message, after any judged messages
 --     First, Sequel, Sequels, Cut the fragments
---     every-cut-accepted          the law, as the record Passes; it has cut-as-whole in it
+--     every_cut_accepted          the law, as the record Passes; it has cut_as_whole in it
 use mathlib.Core.Path.{◌≡◌, refl, sym, ap, ◌∙◌}
 use Prim.Native.Nat.{ℕ, suc, ◌+◌, ◌%◌, ◌≤◌}
 use mathlib.Core.Bool.{Bool, true, false, cond, not, and-false, ◌&&◌, ◌||◌}
@@ -85,7 +85,7 @@ numbered o n = record { octets = o.octets; number = n }
 abbrev pub accepted : Offer → Judged
 accepted o = numbered o 0
 
--- all but the last are accepted, what cut-as-whole asks of the fragments holds, and so does what it says of the last
+-- all but the last are accepted, what cut_as_whole asks of the fragments holds, and so does what it says of the last
 pub record Passes (start : Sums) (js : List Judged) (whole f : Offer) (os : List Offer) (last : Offer) (octets : List ℕ) : Type 0 where
   pub numbers : offered start js f os ≡ map accepted os ++ (accepted f ∷ js)
   pub begins : Begins start js f
@@ -287,7 +287,7 @@ every_cut_accepted start js whole f os last octets frame cut =
       same = cut_as_whole start js f begins gathers.0 last whole ends one;
     }
 
--- ---- in a history: these are the messages judged, and `within` holds by judged-within
+-- ---- in a history: these are the messages judged, and `within` holds by judged_within
 
 pub offered-judged : (start : Sums) (earlier : List Offer) (f : Offer) (os : List Offer)
     → offered start (judged start earlier) f os ≡ judged start (os ++ (f ∷ earlier))

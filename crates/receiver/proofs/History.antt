@@ -10,9 +10,9 @@
 --     Ran                         a run: start, then each call on the receiver that the one before handed back
 --     Unaltered                   C-12's condition on the calls of a run; a run of a list without first fragments always meets it
 --     Before                      that one run is a first part of another
---     every-run-within            what holds of every run, as the record Within
---     demand-3                    the claim, as the record Demand3, of every unaltered run
---     demand-3-unsplit            the same of every run of a list without first fragments
+--     every_run_within            what holds of every run, as the record Within
+--     demand_3                    the claim, as the record Demand3, of every unaltered run
+--     demand_3_unsplit            the same of every run of a list without first fragments
 -- What a call is stands in Calls.antt, and that every list has a run in Runs.antt.
 use mathlib.Core.Path.{◌≡◌, refl, ap, ap₂, ◌∙◌, sym, subst}
 use Prim.Native.Nat.{ℕ}

@@ -13,7 +13,7 @@ use Rattle.receiver.specs.declared.SetReply.{SetReply}
 
 -- ---- one message of it
 
--- no slice is lent with a set; for a message of type 0x00 none counts (proofs/SetLaws.antt: void-same)
+-- no slice is lent with a set; for a message of type 0x00 none counts (proofs/SetLaws.antt: void_same)
 abbrev pub none_lent : Lent
 none_lent = lent 0 0 0
 

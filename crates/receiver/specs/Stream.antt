@@ -25,7 +25,7 @@ left_in zero m = m
 left_in (suc most) m = cond (eqb (entry_of m) 0) m (left_in most (drop (entry_of m) m))
 
 -- C-14: what a list in one slice is taken apart into: its messages, and what is left after them, if anything, as one more. What is left is
--- never as long as it claims, or it is below 8 octets, so that check 2 refuses it (proofs/SetLaws.antt: left-refused).
+-- never as long as it claims, or it is below 8 octets, so that check 2 refuses it (proofs/SetLaws.antt: left_refused).
 unfoldable pub parts_in : List ℕ → List (List ℕ)
 parts_in octets =
     let left = left_in (length octets) octets in
