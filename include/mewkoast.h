@@ -6,8 +6,8 @@
  * Checks and limits are those of document 01 and of the requests C-11 to C-16;
  * messages and tags are those of IDN-Stream, Revision 001.
  *
- * For x86-64 Linux. Link target/staticlib/libreceiver.a (`rt staticlib
- * receiver`) for section 5 and libtags.a (`rt staticlib tags`) for sections 2
+ * For x86-64 Linux. Link target/staticlib/libreceiver.a (`tools/build
+ * receiver`) for section 5 and libtags.a (`tools/build tags`) for sections 2
  * to 4. Each is one object with all the code that its own calls run and with
  * no other call: a host that needs section 5 alone links libreceiver.a alone,
  * one that needs both links both. Of the C library they take memcpy and memset
