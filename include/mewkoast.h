@@ -25,7 +25,7 @@
 #include <stddef.h>
 #include <stdint.h>
 
-#define MEWKOAST_VERSION "0.12.0"
+#define MEWKOAST_VERSION "0.13.0"
 
 #ifdef __cplusplus
 extern "C" {
