@@ -1,4 +1,6 @@
 // The lines of the listing program, and what it keeps of its input and output.
+#![tactic(auto)]
+
 pub mod reading;
 mod text;
 

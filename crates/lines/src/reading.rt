@@ -1,13 +1,15 @@
-// What is read of the input and not yet listed: a part of a buffer. Here is all of it that calls nothing of C's.
+// What is read of the input and not yet listed: a part of a buffer. Here is all of it that reads nothing.
 ghost use Rattle.std.specs.Prelude.{◌≡◌, ◌-◌, ◌≤◌, length};
 ghost use Rattle.lines.specs.Reading.{moved, stops, counted_of, counted_all, goes_on};
+
+use super::text::copy;
 
 // More octets than any message has.
 pub const MOST: usize = 65536;
 
 // The unread octets, those of a buffer from one place up to another; the size of the message at their front, 0 where none is whole; and
 // whether the last read gave nothing.
-#[derive(Drop)]
+#[derive(Clone, Copy)]
 pub struct Unread {
     pub from: usize,
     pub end: usize,
@@ -16,7 +18,7 @@ pub struct Unread {
 }
 
 // What a read leaves: the place after the octets of the buffer, and whether it gave none.
-#[derive(Drop)]
+#[derive(Clone, Copy)]
 pub struct More {
     pub end: usize,
     pub ended: bool,
@@ -30,8 +32,8 @@ pub fn to_front(from: usize, end: usize, octets: &mut [u8], spare: &mut [u8]) ->
     ensures value { result ≡ end - from }
     ensures octets_after { octets.new ≡ moved from end octets.old }
 {
-    let count = bytes::copy(&octets[from..end], spare);
-    bytes::copy(&spare[0..count], octets)
+    let count = copy(&octets[from..end], spare);
+    copy(&spare[0..count], octets)
 }
 
 // Whether no more is to be read, with count octets unread and a message of this size at their front.

@@ -3,6 +3,16 @@
 ghost use Rattle.std.specs.Prelude.{◌∷◌, ◌+◌, ◌*◌, ◌≤◌, length};
 ghost use Rattle.lines.specs.Text.{decimal, spaced, line_of, room, Front, Added};
 
+// Copies a text to the front of out, and gives its length.
+pub(crate) fn copy(text: &[u8], out: &mut [u8]) -> usize
+    requires { length text.now ≤ length out.old }
+    ensures { Front text.now out.old result out.new }
+{
+    let count = text.len();
+    out[..count].copy_from_slice(text);
+    count
+}
+
 // A space, and a number in decimal.
 fn number(n: u64, out: &mut [u8]) -> usize
     requires { 21 ≤ length out.old }
@@ -11,7 +21,7 @@ fn number(n: u64, out: &mut [u8]) -> usize
     out[0] = b' ';
     let mut digits = [0u8; 20];
     let k = io::decimal(n, &mut digits);
-    1 + bytes::copy(&digits[..k], &mut out[1..])
+    1 + copy(&digits[..k], &mut out[1..])
 }
 
 // Each number after a space.
@@ -35,7 +45,7 @@ pub(crate) fn line(word: &[u8], ns: &[u64], at: usize, out: &mut [u8]) -> usize
     requires room_in_bounds { at + room ≤ length out.old }
     ensures { Added (line_of word.now ns.now) at out.old result out.new }
 {
-    let a = at + bytes::copy(word, &mut out[at..]);
+    let a = at + copy(word, &mut out[at..]);
     let b = a + numbers(ns, &mut out[a..]);
-    b + bytes::copy(b"\n", &mut out[b..])
+    b + copy(b"\n", &mut out[b..])
 }
