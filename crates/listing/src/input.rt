@@ -1,36 +1,37 @@
-// Reading standard input: each call of C's in a function of its own, and the loops over them.
+// Reading standard input: each read in a function of its own, and the loops over them.
 ghost use Rattle.std.specs.Prelude.{◌≡◌, true, false, ◌-◌, ◌<◌, ◌≤◌, length, take};
 ghost use Rattle.lines.specs.Reading.{part, most, stops, Grown, Ready, Kept, counted_all};
 ghost use Rattle.receiver.specs.Stream.{entry_of};
 
-use libc::{STDERR_FILENO, STDIN_FILENO};
 use lines::reading;
 use lines::reading::{More, Unread};
 use receiver::stream;
+use std::io;
+use std::io::{Eprint, Read};
 
 // The count of octets from a cut on, and whether the last read gave nothing.
-#[derive(Drop)]
+#[derive(Clone, Copy)]
 pub(crate) struct Rest {
     pub count: u64,
     pub ended: bool,
 }
 
 // Tells on standard error that a read has failed, where it has.
-fn tell_read(got: isize) {
-    if got < 0 {
-        io::write_all(STDERR_FILENO, b"listing: standard input cannot be read\n");
+fn tell_read<E: Eprint>(told: &E, got: io::Result<usize>) {
+    if got.is_err() {
+        let _ = told.eprintln("listing: standard input cannot be read");
     }
 }
 
 // One read, after the first kept octets of the buffer. There is room after them, so that a read that gives nothing has met the end of
 // the input; one that fails counts as that.
-fn read_more(kept: usize, octets: &mut [u8]) -> More
+fn read_more<R: Read, E: Eprint>(input: &mut R, told: &E, kept: usize, octets: &mut [u8]) -> More
     requires { kept < length octets.old }
     ensures { Grown kept octets.old result octets.new }
 {
-    let got = libc::read(STDIN_FILENO, &mut octets[kept..]);
-    tell_read(got);
-    let end = kept + io::count(got, &octets[kept..]);
+    let got = input.read(&mut octets[kept..]);
+    tell_read(told, got);
+    let end = kept + got.unwrap_or(0);
     More {
         end,
         ended: end == kept,
@@ -39,7 +40,12 @@ fn read_more(kept: usize, octets: &mut [u8]) -> More
 
 // Reads on after the first kept octets of the buffer, which have no whole message at their front, until one is there or no more is to
 // be read. Each read gives an octet or ends this, and most octets are enough.
-fn read_message(kept: usize, octets: &mut [u8]) -> Unread
+fn read_message<R: Read, E: Eprint>(
+    input: &mut R,
+    told: &E,
+    kept: usize,
+    octets: &mut [u8],
+) -> Unread
     requires kept_lt_most { kept < most }
     requires most_in_bounds { most < length octets.old }
     ensures ready { Ready result octets.new }
@@ -47,7 +53,7 @@ fn read_message(kept: usize, octets: &mut [u8]) -> Unread
 {
     let mut have = kept;
     loop {
-        let more = read_more(have, octets);
+        let more = read_more(input, told, have, octets);
         let end = more.end;
         let ended = more.ended;
         let size = stream::entry(&octets[0..end]);
@@ -65,7 +71,14 @@ fn read_message(kept: usize, octets: &mut [u8]) -> Unread
 }
 
 // The next unread octets, with the message at their front: those from one place up to another, read on where no whole message is there.
-pub(crate) fn read_on(from: usize, end: usize, octets: &mut [u8], spare: &mut [u8]) -> Unread
+pub(crate) fn read_on<R: Read, E: Eprint>(
+    input: &mut R,
+    told: &E,
+    from: usize,
+    end: usize,
+    octets: &mut [u8],
+    spare: &mut [u8],
+) -> Unread
     requires from_le_end { from ≤ end }
     requires end_in_bounds { end ≤ length octets.old }
     requires most_in_bounds { most < length octets.old }
@@ -86,18 +99,18 @@ pub(crate) fn read_on(from: usize, end: usize, octets: &mut [u8], spare: &mut [u
         };
     }
     let kept = reading::to_front(from, end, octets, spare);
-    read_message(kept, octets)
+    read_message(input, told, kept, octets)
 }
 
 // Counts the octets to the end of the input, with those before them.
-fn count_rest(before: usize, octets: &mut [u8]) -> Rest
+fn count_rest<R: Read, E: Eprint>(input: &mut R, told: &E, before: usize, octets: &mut [u8]) -> Rest
     requires { 0 < length octets.old }
     ensures before_le_count { before ≤ result.count }
     ensures ended_value { counted_all result.count result.ended ≡ true }
 {
     let mut count = before as u64;
     loop {
-        let more = read_more(0, octets);
+        let more = read_more(input, told, 0, octets);
         let ended = more.ended;
         count = reading::counted(count, more.end);
         let all = reading::counted_all(count, ended);
@@ -108,7 +121,12 @@ fn count_rest(before: usize, octets: &mut [u8]) -> Rest
 }
 
 // The count of octets from the first one that is not listed to the end of the input.
-pub(crate) fn cut_count(unread: Unread, octets: &mut [u8]) -> Rest
+pub(crate) fn cut_count<R: Read, E: Eprint>(
+    input: &mut R,
+    told: &E,
+    unread: Unread,
+    octets: &mut [u8],
+) -> Rest
     requires from_le_end { unread.from ≤ unread.end }
     requires octets_nonzero { 0 < length octets.old }
     ensures from_bound { unread.end - unread.from ≤ result.count }
@@ -121,5 +139,5 @@ pub(crate) fn cut_count(unread: Unread, octets: &mut [u8]) -> Rest
         let count = got as u64;
         return Rest { count, ended };
     }
-    count_rest(got, octets)
+    count_rest(input, told, got, octets)
 }

@@ -1,5 +1,7 @@
 // The listing program: reads messages end to end from standard input, prints a line for each, and then the meters. The lines, and what
 // becomes of octets once they are read, are the crate lines'; here are the calls that read and write.
+#![tactic(auto)]
+
 mod input;
 mod output;
 
@@ -22,6 +24,7 @@ use receiver::place::{
     mewkoast_readings_on,
 };
 use receiver::{Readings, Reply};
+use std::io::{Eprint, Read, Write};
 
 // How many numbers are lent for the rows of a message.
 const NUMBERS: usize = 12000;
@@ -34,7 +37,7 @@ const ASSEMBLY: usize = 65536;
 
 // What the listing of the messages leaves: the readings, the lines not yet written out, the octets not listed, and how many messages
 // there were.
-#[derive(Drop)]
+#[derive(Clone, Copy)]
 struct Listed {
     readings: Readings,
     output: Output,
@@ -77,7 +80,10 @@ fn list_message(
 }
 
 // Lists the messages, from a receiver that is started at 0 0 0 on the lent record, as far as whole ones come.
-fn list_messages(
+fn list_messages<R: Read, W: Write, E: Eprint>(
+    input: &mut R,
+    to: &mut W,
+    told: &E,
     channels: &mut [u8; CHANNEL_OCTETS],
     meters: &mut [u64; METER_COUNT],
     gathered: &mut [u32; GATHERED_COUNT],
@@ -98,10 +104,10 @@ fn list_messages(
 {
     start(channels, meters, gathered);
     let mut output = nothing_put();
-    let mut unread = read_on(0, 0, octets, spare);
+    let mut unread = read_on(input, told, 0, 0, octets, spare);
     let mut messages: u64 = 0;
     while reading::goes_on(unread.size, messages) {
-        output = make_room(output, out);
+        output = make_room(to, told, output, out);
         let from = unread.from;
         let next = from + unread.size;
         let message = &octets[from..next];
@@ -116,8 +122,8 @@ fn list_messages(
             &mut output.at,
             out,
         );
-        output = flush_to_wait(next, unread.end, octets, output, out);
-        unread = read_on(next, unread.end, octets, spare);
+        output = flush_to_wait(to, told, next, unread.end, octets, output, out);
+        unread = read_on(input, told, next, unread.end, octets, spare);
         messages += 1;
     }
     Listed {
@@ -129,7 +135,10 @@ fn list_messages(
 }
 
 // Lists the messages, then what is cut, then the meters, and writes all out.
-fn list(
+fn list<R: Read, W: Write, E: Eprint>(
+    input: &mut R,
+    to: &mut W,
+    told: &E,
     channels: &mut [u8; CHANNEL_OCTETS],
     meters: &mut [u64; METER_COUNT],
     gathered: &mut [u32; GATHERED_COUNT],
@@ -145,25 +154,28 @@ fn list(
     requires room_in_bounds { room ≤ length out.old }
 {
     let listed = list_messages(
-        channels, meters, gathered, octets, spare, rows, levels, assembly, out,
+        input, to, told, channels, meters, gathered, octets, spare, rows, levels, assembly, out,
     );
-    let rest = cut_count(listed.unread, octets);
-    let with_cut = put_cut(rest.count, listed.output, out);
-    let with_meters = put_meters(listed.readings, with_cut, out);
-    flush(with_meters, out);
+    let rest = cut_count(input, told, listed.unread, octets);
+    let with_cut = put_cut(to, told, rest.count, listed.output, out);
+    let with_meters = put_meters(to, told, listed.readings, with_cut, out);
+    flush(to, told, with_meters, out);
 }
 
-fn main() {
+fn main(rt: HostRuntime) {
     let mut channels = [0u8; CHANNEL_OCTETS];
     let mut meters = [0u64; METER_COUNT];
     let mut gathered = [0u32; GATHERED_COUNT];
     let mut octets = [0u8; 131072];
-    let mut spare = io::large_buffer();
+    let mut spare = [0u8; 65536];
     let mut rows = [0i32; NUMBERS];
     let mut levels = [0u8; LEVELS];
     let mut assembly = [0u8; ASSEMBLY];
-    let mut out = io::large_buffer();
+    let mut out = [0u8; 65536];
     list(
+        &mut rt.stdin(),
+        &mut rt.stdout(),
+        &rt,
         &mut channels,
         &mut meters,
         &mut gathered,

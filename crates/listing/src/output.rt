@@ -6,11 +6,11 @@ ghost use Rattle.lines.specs.Lines.{cut_line, meters_line};
 ghost use Rattle.lines.specs.Reading.{part};
 ghost use Rattle.receiver.specs.Stream.{entry_of};
 
-use libc::{STDERR_FILENO, STDOUT_FILENO};
 use receiver::{Readings, stream};
+use std::io::{Eprint, Write};
 
 // The lines collected for the output: the place in a buffer up to which they stand, and whether a write has failed.
-#[derive(Drop)]
+#[derive(Clone, Copy)]
 pub(crate) struct Output {
     pub at: usize,
     pub failed: bool,
@@ -27,7 +27,7 @@ pub(crate) fn nothing_put() -> Output
 }
 
 // Writes out the lines collected in out. Where a write fails, that is told on standard error once, and no more is written.
-pub(crate) fn flush(output: Output, out: &[u8]) -> Output
+pub(crate) fn flush<W: Write, E: Eprint>(to: &mut W, told: &E, output: Output, out: &[u8]) -> Output
     requires { output.at ≤ length out.now }
     ensures at_value { result.at ≡ 0 }
     ensures failed_value { output.failed ≡ true → result.failed ≡ true }
@@ -39,12 +39,9 @@ pub(crate) fn flush(output: Output, out: &[u8]) -> Output
         };
     }
     let at = output.at;
-    let written = io::write_all(STDOUT_FILENO, &out[0..at]);
+    let written = to.write_all(&out[0..at]).is_ok();
     if !written {
-        io::write_all(
-            STDERR_FILENO,
-            b"listing: standard output cannot be written\n",
-        );
+        let _ = told.eprintln("listing: standard output cannot be written");
     }
     Output {
         at: 0,
@@ -53,7 +50,9 @@ pub(crate) fn flush(output: Output, out: &[u8]) -> Output
 }
 
 // Writes the collected lines out before a read that may wait: where the next message is not there whole.
-pub(crate) fn flush_to_wait(
+pub(crate) fn flush_to_wait<W: Write, E: Eprint>(
+    to: &mut W,
+    told: &E,
     next: usize,
     end: usize,
     octets: &[u8],
@@ -71,11 +70,16 @@ pub(crate) fn flush_to_wait(
     if 0 < size {
         return output;
     }
-    flush(output, out)
+    flush(to, told, output, out)
 }
 
 // Gives the place for the next line in out, with room for any line: collected lines that leave too little room are written out.
-pub(crate) fn make_room(output: Output, out: &[u8]) -> Output
+pub(crate) fn make_room<W: Write, E: Eprint>(
+    to: &mut W,
+    told: &E,
+    output: Output,
+    out: &[u8],
+) -> Output
     requires at_in_bounds { output.at ≤ length out.now }
     requires room_in_bounds { room ≤ length out.now }
     ensures at_value { result.at ≡ place_for output.at (length out.now) }
@@ -83,32 +87,44 @@ pub(crate) fn make_room(output: Output, out: &[u8]) -> Output
     ensures failed_value { output.failed ≡ true → result.failed ≡ true }
 {
     if out.len() - output.at < lines::ROOM {
-        return flush(output, out);
+        return flush(to, told, output, out);
     }
     output
 }
 
 // Collects the line of an input that is cut, where octets are left.
-pub(crate) fn put_cut(count: u64, output: Output, out: &mut [u8]) -> Output
+pub(crate) fn put_cut<W: Write, E: Eprint>(
+    to: &mut W,
+    told: &E,
+    count: u64,
+    output: Output,
+    out: &mut [u8],
+) -> Output
     requires at_in_bounds { output.at ≤ length out.old }
     requires room_in_bounds { room ≤ length out.old }
     ensures added { Added (cut_line count) (place_for output.at (length out.old)) out.old result.at out.new }
     ensures failed_value { output.failed ≡ true → result.failed ≡ true }
 {
-    let next = make_room(output, out);
+    let next = make_room(to, told, output, out);
     let at = lines::cut_line(count, next.at, out);
     let failed = next.failed;
     Output { at, failed }
 }
 
 // Collects the line of the meters.
-pub(crate) fn put_meters(readings: Readings, output: Output, out: &mut [u8]) -> Output
+pub(crate) fn put_meters<W: Write, E: Eprint>(
+    to: &mut W,
+    told: &E,
+    readings: Readings,
+    output: Output,
+    out: &mut [u8],
+) -> Output
     requires at_in_bounds { output.at ≤ length out.old }
     requires room_in_bounds { room ≤ length out.old }
     ensures added { Added (meters_line readings) (place_for output.at (length out.old)) out.old result.at out.new }
     ensures failed_value { output.failed ≡ true → result.failed ≡ true }
 {
-    let next = make_room(output, out);
+    let next = make_room(to, told, output, out);
     let at = lines::meters_line(readings, next.at, out);
     let failed = next.failed;
     Output { at, failed }
