@@ -1,5 +1,5 @@
 // The archive of the receiver for C hosts. Each call is that of the same name in crates/receiver/src/host.rt or place.rt, with its whole
-// promise; proofs/Exports.antt says that demand 3 speaks of these calls.
+// promise; proofs/Exports.antt says that demand 3 speaks of those that start, change or read a record.
 #![tactic(auto)]
 
 ghost use Rattle.std.specs.Prelude.{◌≡◌};
