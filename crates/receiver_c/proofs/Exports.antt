@@ -1,7 +1,7 @@
--- Demand 3 speaks of what the archive exports: each call of it, from C by value or in place, is the call of that name that is meant in
--- crates/receiver/proofs/Calls.antt, and so a step of the runs of History.antt and Runs.antt. `Learnt` is generated from the `ensures` of the
--- exported function itself, so that the clauses, which stand in both crates, cannot come apart. What a caller of the data section learns is
--- said beside it.
+-- Demand 3 speaks of what the archive exports: each call of it that starts, changes or reads a record, by value or in place, is the call of
+-- that name that is meant in crates/receiver/proofs/Calls.antt, and so of the runs of History.antt and Runs.antt. `Learnt` is generated from
+-- the `ensures` of the exported function itself, so that the clauses, which stand in both crates, cannot come apart. What a caller of the
+-- data section learns is said beside it.
 use mathlib.Core.Path.{◌≡◌, refl}
 use mathlib.Core.Bool.{true}
 use mathlib.Core.List.{List}
