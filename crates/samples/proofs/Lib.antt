@@ -6,3 +6,4 @@ pub mod SlotLaws
 pub mod RowLaws
 pub mod LitLaws
 pub mod PointLaws
+mod EarlierLaws

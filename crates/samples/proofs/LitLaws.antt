@@ -5,18 +5,17 @@ use native.Mathlib.Decide.{ℕ_discrete, dec_lt}
 use mathlib.Core.Path.{◌≡◌, refl, sym, ◌∙◌, ap}
 use mathlib.Core.Bool.{Bool, true, false, not, ◌||◌}
 use mathlib.Core.List.{List}
-use mathlib.Core.Logic.{◌⊎◌, inl, inr}
-use lib.Bits.{bit_or}
+use mathlib.Core.Logic.{inl, inr}
 use lib.ListN.{length, get_or}
 use lib.Dec.{eqb}
 use borrow.Author.Tests.{eqb-true, eqb-false, not-false}
 use Rattle.samples.specs.declared.plan.Plan.{Plan}
+use Rattle.samples.specs.declared.signals.Signal.{Signal}
 use Rattle.samples.specs.Limits.{colour_limit}
 use Rattle.samples.specs.Roles.{first_octet_of}
 use Rattle.samples.specs.Row.{colour_of, lit_among, lit_of}
-use Rattle.samples.specs.Signals.{slot_at, count_of, Among, Listed, scaled_at, NoneLit}
-use Rattle.samples.specs.Plan.{Planned}
-use Rattle.samples.proofs.SignalLaws.{or-none, or-zeros}
+use Rattle.samples.specs.Signals.{signal_at, Among, In, Listed, scaled_in, AllDark, NoneLitIn}
+use Rattle.samples.specs.Plan.{octet_in, Planned}
 use Rattle.samples.proofs.SlotLaws.{free-early, value_none, scaled_is, colour-zero}
 use Rattle.samples.proofs.RowLaws.{hint_is}
 
@@ -47,34 +46,33 @@ module _ (roles sample : List ℕ) where
 
 -- ---- by the two lists of colours
 
-module _ (p : Plan) (roles waves sample : List ℕ) (d : Planned p roles waves) (l : length sample ≡ length roles) (hint : ℕ) (e : hint ≡ get_or sample p.singles.hint 0) (a b : ℕ)
-    (z : NoneLit a (scaled_at (hint / 64 * 2) sample p.colours.fine) (count_of p.colours.fine))
-    (y : NoneLit b (scaled_at (hint / 64 * 2) sample p.colours.coarse) (count_of p.colours.coarse)) where
+module _ (p : Plan) (roles waves sample : List ℕ) (d : Planned p roles waves) (l : length sample ≡ length roles) (hint : ℕ) (e : hint ≡ octet_in p.hint sample) (r : ℕ)
+    (z : NoneLitIn r (scaled_in (hint / 64 * 2) sample) p.colours) where
   -- a list of colours
-  module _ (precise : Bool) (list : List ℕ) (g : Listed d.places (length roles) waves 8 colour_limit precise colour_limit list) where
-    scaled_at_lem : (j : ℕ) → j < count_of list → scaled_at (hint / 64 * 2) sample list j ≡ colour_of roles sample (slot_at list j - 8)
-    scaled_at_lem j c = rw (e ∙ hint_is p roles waves sample d l) (scaled_is roles d.places sample d.table waves 8 colour_limit precise _ _ _ (g.each j c) (omega arith) (omega arith))
+  module _ (precise : Bool) (list : List Signal) (g : Listed d.places (length roles) waves 8 colour_limit precise colour_limit list) where
+    scaled_at : (j : ℕ) → j < length list → scaled_in (hint / 64 * 2) sample (signal_at list j) ≡ colour_of roles sample ((signal_at list j).slot - 8)
+    scaled_at j c = rw (e ∙ hint_is p roles waves sample d l) (scaled_is roles d.places sample d.table waves 8 colour_limit precise _ (g.each j c) (omega arith) (omega arith))
 
-    zero_at : (k : ℕ) → ((j : ℕ) → j < count_of list → scaled_at (hint / 64 * 2) sample list j ≡ 0) → Among list (count_of list) (k + 8) → colour_of roles sample k ≡ 0
-    zero_at k n x =
-        let q : slot_at list x.index - 8 ≡ k = omega (arith, x.slot) in
-        ap (colour_of roles sample) (sym q) ∙ sym (scaled_at_lem x.index x.below) ∙ n x.index x.below
+    dark_at : (k : ℕ) → AllDark (scaled_in (hint / 64 * 2) sample) list (length list) → Among list (length list) (k + 8) → colour_of roles sample k ≡ 0
+    dark_at k n x =
+        let q : (signal_at list x.index).slot - 8 ≡ k = omega (arith, x.slot) in
+        ap (colour_of roles sample) (sym q) ∙ sym (scaled_at x.index x.below) ∙ n x.index x.below
 
-    zeros : ((k : ℕ) → k < colour_limit → colour_of roles sample k ≡ 0) → (j : ℕ) → j < count_of list → scaled_at (hint / 64 * 2) sample list j ≡ 0
-    zeros n j c = let s = g.each j c in scaled_at_lem j c ∙ n (slot_at list j - 8) (omega (arith, s.low, s.high))
+    dark : ((k : ℕ) → k < colour_limit → colour_of roles sample k ≡ 0) → AllDark (scaled_in (hint / 64 * 2) sample) list (length list)
+    dark n j c = let s = g.each j c in scaled_at j c ∙ n ((signal_at list j).slot - 8) (omega (arith, s.low, s.high))
 
-  colours-zero : bit_or a b ≡ 0 → (k : ℕ) → k < colour_limit → colour_of roles sample k ≡ 0
-  colours-zero q k c = go (dec_lt (get_or d.places (first_octet_of (k + 8)) 0) (length roles))
+  colours-dark : r ≡ 0 → (k : ℕ) → k < colour_limit → colour_of roles sample k ≡ 0
+  colours-dark q k c = go (dec_lt (get_or d.places (first_octet_of (k + 8)) 0) (length roles))
     where
-      at : Among p.colours.fine (count_of p.colours.fine) (k + 8) ⊎ Among p.colours.coarse (count_of p.colours.coarse) (k + 8) → colour_of roles sample k ≡ 0
-      at (inl x) = zero_at true p.colours.fine d.colours.precise k (z.0 (or-none a b q).0) x
-      at (inr x) = zero_at false p.colours.coarse d.colours.plain k (y.0 (or-none a b q).1) x
+      at : In p.colours (k + 8) → colour_of roles sample k ≡ 0
+      at (inl x) = dark_at true p.colours.fine d.colours.precise k (z.0 q).0 x
+      at (inr x) = dark_at false p.colours.coarse d.colours.plain k (z.0 q).1 x
 
       go : Dec (get_or d.places (first_octet_of (k + 8)) 0 < length roles) → colour_of roles sample k ≡ 0
       go (yes w) = at (d.colours.all (k + 8) (omega arith) (omega arith) (free-early waves (k + 8) (omega arith)) w)
       go (no w) = colour-zero roles sample k (value_none roles d.places sample d.table (k + 8) (omega arith) w)
 
-  pub lit-drawn : not (eqb (bit_or a b) 0) ≡ lit_of roles sample
+  pub lit-drawn : not (eqb r 0) ≡ lit_of roles sample
   lit-drawn =
-      lit_by roles sample (bit_or a b) colours-zero
-      (λ n. or-zeros a b (z.1 (zeros true p.colours.fine d.colours.precise n)) (y.1 (zeros false p.colours.coarse d.colours.plain n)))
+      lit_by roles sample r colours-dark
+      (λ n. z.1 (dark true p.colours.fine d.colours.precise n, dark false p.colours.coarse d.colours.plain n))

@@ -3,185 +3,121 @@ use Prim.Native.Nat.{ℕ, ◌+◌, ◌<◌, ◌≤◌}
 use native.Mathlib.Omega.{arith}
 use native.Mathlib.Decide.{ℕ_discrete, dec_lt}
 use mathlib.Core.Path.{◌≡◌, refl, sym, ◌∙◌, ap}
-use mathlib.Core.Bool.{Bool, true, false, not, cond, ◌&&◌}
-use mathlib.Core.List.{List}
+use mathlib.Core.Bool.{Bool, true, false}
+use mathlib.Core.List.{List, [], ◌∷◌, ◌++◌}
 use mathlib.Core.Logic.{◌⊎◌, inl, inr}
 use lib.Bits.{bit_or, or_zero_l, or_add_and, and_le_l, and_le_r}
-use lib.ListN.{length, get_or, set, length-set}
-use lib.Seq.{get_or-set_same, get_or-set_other}
+use lib.ListN.{length, get_or, set, length-append, get_or-append}
+use lib.Seq.{get_or-set_same, get_or-set_other, get_or_at}
 use lib.IntN.{ℤ, pos}
 use lib.Dec.{ltb}
-use borrow.Author.Tests.{lt-ltb, ltb-true, not-true}
-use Rattle.samples.specs.Limits.{colour_limit, row_size}
-use Rattle.samples.specs.Roles.{first_octet_of, precision_of}
-use Rattle.samples.specs.Signals.{list_size, slot_at, first_at, second_at, count_of, Among, Added, is_free, Signal, Listed, Gathered, Readable, value_by, value_at, Stored, NoneLit}
+use borrow.Author.Tests.{lt-ltb, le-ltb}
+use Rattle.samples.specs.declared.signals.Signal.{Signal}
+use Rattle.samples.specs.declared.signals.Kind.{Kind}
+use Rattle.samples.specs.Limits.{row_size}
+use Rattle.samples.specs.Roles.{first_octet_of}
+use Rattle.samples.specs.Signals.{signal_of, signal_at, Among, In, is_free, Found, Listed, Gathered, Stored, BothStored, NoneLit, NoneLitIn}
 
 -- ---- one signal more
 
-module _ (list : List ℕ) (s first second : ℕ) (l : length list ≡ list_size) where
-  pub added_none : Added list false s first second list
-  added_none = record { sized = l; counted = omega arith; old = (λ j b. (refl, refl, refl)); new = (λ e. absurd (let z : ◌≡◌ {A = ℕ} 0 1 = cc in omega arith)) }
+module _ (list : List Signal) (x : Signal) where
+  longer : length (list ++ (x ∷ [])) ≡ length list + 1
+  longer = rw length-append refl
 
-  abbrev list₁ : List ℕ
-  list₁ = set list (count_of list) s
+  old : (j : ℕ) → j < length list → signal_at (list ++ (x ∷ [])) j ≡ signal_at list j
+  old j h = get_or-append list (x ∷ []) _ j h
 
-  abbrev list₂ : List ℕ
-  list₂ = set list₁ (count_of list + 8) first
+  new : signal_at (list ++ (x ∷ [])) (length list) ≡ x
+  new = get_or_at list x [] _ (length list) refl
 
-  abbrev list₃ : List ℕ
-  list₃ = set list₂ (count_of list + 16) second
-
-  abbrev list₄ : List ℕ
-  list₄ = set list₃ 24 (count_of list + 1)
-
-  module _ (h : count_of list < colour_limit) where
-    kept : (k : ℕ) → (k ≡ 24 → ⊥) → (k ≡ count_of list + 16 → ⊥) → (k ≡ count_of list + 8 → ⊥) → (k ≡ count_of list → ⊥) → get_or list₄ k 0 ≡ get_or list k 0
-    kept k a b c d =
-        get_or-set_other list₃ 24 k _ 0 a ∙ get_or-set_other list₂ (count_of list + 16) k _ 0 b ∙ get_or-set_other list₁ (count_of list + 8) k _ 0 c
-        ∙ get_or-set_other list (count_of list) k _ 0 d
-
-    pub added-one : Added list true s first second list₄
-    added-one =
-        record {
-          sized = simp length-set l;
-          counted = get_or-set_same list₃ 24 _ 0 (simp length-set (omega arith));
-          old =
-              (λ j b. (
-                kept j (λ q. omega arith) (λ q. omega arith) (λ q. omega arith) (λ q. omega arith),
-                kept (j + 8) (λ q. omega arith) (λ q. omega arith) (λ q. omega arith) (λ q. omega arith),
-                kept (j + 16) (λ q. omega arith) (λ q. omega arith) (λ q. omega arith) (λ q. omega arith),
-              ));
-          new =
-              (λ e. (
-                get_or-set_other list₃ 24 (count_of list) _ 0 (λ q. omega arith)
-                    ∙ get_or-set_other list₂ (count_of list + 16) (count_of list) _ 0 (λ q. omega arith)
-                    ∙ get_or-set_other list₁ (count_of list + 8) (count_of list) _ 0 (λ q. omega arith)
-                    ∙ get_or-set_same list (count_of list) s 0 (omega arith),
-                get_or-set_other list₃ 24 (count_of list + 8) _ 0 (λ q. omega arith)
-                    ∙ get_or-set_other list₂ (count_of list + 16) (count_of list + 8) _ 0 (λ q. omega arith)
-                    ∙ get_or-set_same list₁ (count_of list + 8) first 0 (simp length-set (omega arith)),
-                get_or-set_other list₃ 24 (count_of list + 16) _ 0 (λ q. omega arith)
-                    ∙ get_or-set_same list₂ (count_of list + 16) second 0 (simp length-set (omega arith)),
-              ));
-        }
-
-module _ (list after : List ℕ) (wanted : Bool) (s first second : ℕ) (d : Added list wanted s first second after) where
-  among-more : (k : ℕ) → Among list (count_of list) k → Among after (count_of after) k
-  among-more k a =
+  among-more : (s : ℕ) → Among list (length list) s → Among (list ++ (x ∷ [])) (length (list ++ (x ∷ []))) s
+  among-more s a =
       record {
         index = a.index;
-        below = omega (arith, a.below, d.counted);
-        slot = (d.old a.index a.below).0 ∙ a.slot;
+        below = omega (arith, longer, a.below);
+        slot = ap (λ (y : Signal). y.slot) (old a.index a.below) ∙ a.slot;
       }
 
-  among-new : wanted ≡ true → Among after (count_of after) s
-  among-new e =
+  among-new : Among (list ++ (x ∷ [])) (length (list ++ (x ∷ []))) x.slot
+  among-new = record { index = length list; below = omega (arith, longer); slot = ap (λ (y : Signal). y.slot) new }
+
+module _ (places : List ℕ) (width : ℕ) (waves : List ℕ) (start count : ℕ) (precise : Bool) (n : ℕ) (list : List Signal) (g : Listed places width waves start count precise n list) where
+  listed_kept : Listed places width waves start count precise (n + 1) list
+  listed_kept = record { short = omega (arith, g.short); each = g.each }
+
+  listed_more : (x : Signal) → Found places width waves start count precise x → Listed places width waves start count precise (n + 1) (list ++ (x ∷ []))
+  listed_more x f = record { short = omega (arith, longer list x, g.short); each = each }
+    where
+      go : (j : ℕ) → j < length (list ++ (x ∷ [])) → Dec (j < length list) → Found places width waves start count precise (signal_at (list ++ (x ∷ [])) j)
+      go j h (yes b) = rw (old list x j b) (g.each j b)
+      go j h (no b) = let q : j ≡ length list = omega (arith, longer list x) in rw (q, new list x) f
+
+      each : (j : ℕ) → j < length (list ++ (x ∷ [])) → Found places width waves start count precise (signal_at (list ++ (x ∷ [])) j)
+      each j h = go j h (dec_lt j (length list))
+
+-- slot s is gone through: its signal is added to one of the lists, or to none
+module _ (places : List ℕ) (width : ℕ) (waves : List ℕ) (start count n s : ℕ) (kind : Kind) (g : Gathered places width waves start count n kind) (h : n < count) (q : s ≡ start + n) where
+  abbrev x : Signal
+  x = signal_of places s
+
+  abbrev kind₁ : Kind
+  kind₁ = record { fine = kind.fine ++ (x ∷ []); coarse = kind.coarse }
+
+  abbrev kind₂ : Kind
+  kind₂ = record { fine = kind.fine; coarse = kind.coarse ++ (x ∷ []) }
+
+  found : (precise : Bool) → is_free waves s ≡ true → x.first < width → ltb x.second width ≡ precise → Found places width waves start count precise x
+  found precise f b k = record { low = omega arith; high = omega arith; free = f; placed = refl; refined = refl; within = b; known = k }
+
+  all_by : (after : Kind) → ((k : ℕ) → In kind k → In after k) → (is_free waves s ≡ true → x.first < width → In after s)
+      → (k : ℕ) → start ≤ k → k < start + (n + 1) → is_free waves k ≡ true → get_or places (first_octet_of k) 0 < width → In after k
+  all_by after more this k a b f w = go (ℕ_discrete k s)
+    where
+      go : Dec (k ≡ s) → In after k
+      go (yes e) = rw e (this (rw e at f) (rw e at w))
+      go (no ne) = more k (g.all k a (omega arith) f w)
+
+  pub gathered-fine : is_free waves s ≡ true → x.first < width → x.second < width → Gathered places width waves start count (n + 1) kind₁
+  gathered-fine f b k =
       record {
-        index = count_of list;
-        below = omega (arith, (rw e at d.counted));
-        slot = (d.new e).0;
-      }
-
-  module _ (places : List ℕ) (width : ℕ) (waves : List ℕ) (start count : ℕ) (precise : Bool) (n : ℕ) (g : Listed places width waves start count precise n list) where
-    listed_more : (wanted ≡ true → Signal places width waves start count precise s first second) → Listed places width waves start count precise (n + 1) after
-    listed_more f = record { sized = d.sized; short = short wanted d.counted; each = each }
-      where
-        short : (w : Bool) → count_of after ≡ count_of list + cond w 1 0 → count_of after ≤ n + 1
-        short true e = omega (arith, g.short)
-        short false e = omega (arith, g.short)
-
-        last : (w : Bool) → wanted ≡ w → (j : ℕ) → j < count_of list + cond w 1 0 → (j < count_of list → ⊥) → Signal places width waves start count precise (slot_at after j) (first_at after j) (second_at after j)
-        last false e j h past = absurd (past (omega arith))
-        last true e j h past =
-            let q : j ≡ count_of list = omega arith in
-            rw (q, (d.new e).0, (d.new e).1, (d.new e).2) (f e)
-
-        go : (j : ℕ) → j < count_of after → Dec (j < count_of list) → Signal places width waves start count precise (slot_at after j) (first_at after j) (second_at after j)
-        go j h (yes b) = rw ((d.old j b).0, (d.old j b).1, (d.old j b).2) (g.each j b)
-        go j h (no b) = last wanted refl j (rw d.counted at h) b
-
-        each : (j : ℕ) → j < count_of after → Signal places width waves start count precise (slot_at after j) (first_at after j) (second_at after j)
-        each j h = go j h (dec_lt j (count_of list))
-
-both : (a b : Bool) → (a && b) ≡ true → (a ≡ true) × (b ≡ true)
-both true b e = (refl, e)
-both false b e = (e, (cc))
-
--- slot `start + n` is gone through: it is added to one of the lists, or to none
-module _ (places : List ℕ) (width : ℕ) (waves : List ℕ) (start count n : ℕ) (fine coarse fine' coarse' : List ℕ) (free : Bool) (first second a b : ℕ)
-    (g : Gathered places width waves start count n fine coarse) (h : n < count) (e : free ≡ is_free waves (start + n)) (ea : a ≡ first) (eb : b ≡ second)
-    (ef : first ≡ get_or places (first_octet_of (start + n)) 0) (es : second ≡ get_or places (precision_of (start + n)) 0)
-    (df₀ : Added fine (free && ltb a width && ltb b width) (start + n) first second fine')
-    (dc₀ : Added coarse (free && ltb a width && not (ltb b width)) (start + n) first second coarse') where
-  df : Added fine (is_free waves (start + n) && ltb first width && ltb second width) (start + n) first second fine'
-  df = rw (e, ea, eb) at df₀
-
-  dc : Added coarse (is_free waves (start + n) && ltb first width && not (ltb second width)) (start + n) first second coarse'
-  dc = rw (e, ea, eb) at dc₀
-
-  abbrev here : Bool
-  here = is_free waves (start + n) && ltb first width
-
-  signal : (precise : Bool) → (is_free waves (start + n) && ltb first width) ≡ true → ltb second width ≡ precise → Signal places width waves start count precise (start + n) first second
-  signal precise e k =
-      record {
-        low = omega arith;
-        high = omega arith;
-        free = (both (is_free waves (start + n)) (ltb first width) e).0;
-        placed = ef;
-        refined = es;
-        within = ltb-true first width (both (is_free waves (start + n)) (ltb first width) e).1;
-        known = k;
-      }
-
-  pub gathered-more : Gathered places width waves start count (n + 1) fine' coarse'
-  gathered-more =
-      record {
-        precise = listed_more fine fine' _ _ _ _ df places width waves start count true n g.precise (λ e. let b = both here (ltb second width) e in signal true b.0 b.1);
-        plain = listed_more coarse coarse' _ _ _ _ dc places width waves start count false n g.plain (λ e. let b = both here (not (ltb second width)) e in signal false b.0 (not-true (ltb second width) b.1));
-        all = all;
+        precise = listed_more places width waves start count true n kind.fine g.precise x (found true f b (lt-ltb x.second width k));
+        plain = listed_kept places width waves start count false n kind.coarse g.plain;
+        all = all_by kind₁ more (λ _ _. inl (among-new kind.fine x));
       }
     where
-      new : is_free waves (start + n) ≡ true → first < width → (b : Bool) → ltb second width ≡ b → Among fine' (count_of fine') (start + n) ⊎ Among coarse' (count_of coarse') (start + n)
-      new f b true e = inl (among-new fine fine' _ _ _ _ df (rw (f, lt-ltb first width b, e) refl))
-      new f b false e = inr (among-new coarse coarse' _ _ _ _ dc (rw (f, lt-ltb first width b, e) refl))
+      more : (k : ℕ) → In kind k → In kind₁ k
+      more k (inl a) = inl (among-more kind.fine x k a)
+      more k (inr a) = inr a
 
-      more : (s : ℕ) → Among fine (count_of fine) s ⊎ Among coarse (count_of coarse) s → Among fine' (count_of fine') s ⊎ Among coarse' (count_of coarse') s
-      more s (inl a) = inl (among-more fine fine' _ _ _ _ df s a)
-      more s (inr a) = inr (among-more coarse coarse' _ _ _ _ dc s a)
-
-      go : (s : ℕ) → start ≤ s → s < start + (n + 1) → is_free waves s ≡ true → get_or places (first_octet_of s) 0 < width → Dec (s ≡ start + n) → Among fine' (count_of fine') s ⊎ Among coarse' (count_of coarse') s
-      go s a b f w (yes q) = rw q (new (rw q at f) (rw ef (rw q at w)) (ltb second width) refl)
-      go s a b f w (no ne) = more s (g.all s a (omega arith) f w)
-
-      all : (s : ℕ) → start ≤ s → s < start + (n + 1) → is_free waves s ≡ true → get_or places (first_octet_of s) 0 < width → Among fine' (count_of fine') s ⊎ Among coarse' (count_of coarse') s
-      all s a b f w = go s a b f w (ℕ_discrete s (start + n))
-
--- the octets of the two lists are read without a test
-module _ (places : List ℕ) (width : ℕ) (waves : List ℕ) (start count n : ℕ) (a : start + count ≤ row_size) (b : n ≤ colour_limit) where
-  readable : (precise : Bool) (list : List ℕ) → Listed places width waves start count precise n list → Readable list precise width
-  readable precise list g =
+  pub gathered-coarse : is_free waves s ≡ true → x.first < width → width ≤ x.second → Gathered places width waves start count (n + 1) kind₂
+  gathered-coarse f b k =
       record {
-        short = omega (arith, g.short);
-        each = (λ j h. let e = g.each j h in (omega (arith, e.high), e.within, e.known));
+        precise = listed_kept places width waves start count true n kind.fine g.precise;
+        plain = listed_more places width waves start count false n kind.coarse g.plain x (found false f b (le-ltb x.second width k));
+        all = all_by kind₂ more (λ _ _. inr (among-new kind.coarse x));
       }
+    where
+      more : (k : ℕ) → In kind k → In kind₂ k
+      more k (inl a) = inl a
+      more k (inr a) = inr (among-more kind.coarse x k a)
 
-  pub readable-both : (w : ℕ) (fine coarse : List ℕ) → width ≡ w → Gathered places width waves start count n fine coarse → Readable fine true w × Readable coarse false w
-  readable-both w fine coarse e g = rw (← e) (readable true fine g.precise, readable false coarse g.plain)
+  pub gathered-none : (is_free waves s ≡ true → x.first < width → ⊥) → Gathered places width waves start count (n + 1) kind
+  gathered-none f =
+      record {
+        precise = listed_kept places width waves start count true n kind.fine g.precise;
+        plain = listed_kept places width waves start count false n kind.coarse g.plain;
+        all = all_by kind (λ k a. a) (λ a b. absurd (f a b));
+      }
 
 -- ---- what a loop over a list stores
 
-module _ (g : ℕ → ℤ) (list : List ℕ) (row₀ : List ℤ) where
-  pub stored_none : Stored g list 0 row₀ row₀
-  stored_none f right s h (inl r) = r
-  stored_none f right s h (inr a) = absurd (omega (arith, a.below))
-
-  -- the slot at j is stored
-  module _ (j : ℕ) (row : List ℤ) (slot : ℕ) (v : ℤ) (l : length row ≡ row_size) (q : slot ≡ slot_at list j) (b : slot_at list j < row_size) (e : v ≡ g j) (d : Stored g list j row₀ row) where
-    pub stored_more : Stored g list (j + 1) row₀ (set row slot v)
-    stored_more f right s h x = rw q (go (ℕ_discrete s (slot_at list j)))
+module _ (g : Signal → ℤ) (list : List Signal) (row₀ : List ℤ) where
+  -- the signal at j is stored
+  module _ (j : ℕ) (row : List ℤ) (x : Signal) (v : ℤ) (l : length row ≡ row_size) (q : x ≡ signal_at list j) (b : x.slot < row_size) (e : v ≡ g x) (d : Stored g list j row₀ row) where
+    pub stored_more : Stored g list (j + 1) row₀ (set row x.slot v)
+    stored_more f right s h y = go (ℕ_discrete s x.slot)
       where
-        before : (s ≡ slot_at list j → ⊥) → (get_or row₀ s (pos 0) ≡ f s) ⊎ Among list (j + 1) s → (get_or row₀ s (pos 0) ≡ f s) ⊎ Among list j s
+        before : (s ≡ x.slot → ⊥) → (get_or row₀ s (pos 0) ≡ f s) ⊎ Among list (j + 1) s → (get_or row₀ s (pos 0) ≡ f s) ⊎ Among list j s
         before ne (inl r) = inl r
         before ne (inr a) = inr (record { index = a.index; below = at (dec_lt a.index j); slot = a.slot })
           where
@@ -189,37 +125,50 @@ module _ (g : ℕ → ℤ) (list : List ℕ) (row₀ : List ℤ) where
             at (yes c) = c
             at (no c) =
                 let i : a.index ≡ j = omega (arith, a.below) in
-                absurd (ne (sym a.slot ∙ ap (slot_at list) i))
+                absurd (ne (sym a.slot ∙ ap (λ (k : ℕ). (signal_at list k).slot) i ∙ ap (λ (y : Signal). y.slot) (sym q)))
 
-        go : Dec (s ≡ slot_at list j) → get_or (set row (slot_at list j) v) s (pos 0) ≡ f s
-        go (yes i) = rw i (get_or-set_same row (slot_at list j) v (pos 0) (rw l b) ∙ e ∙ right j (omega arith))
-        go (no ne) =
-            get_or-set_other row (slot_at list j) s v (pos 0) ne ∙ d f (λ i c. right i (omega arith)) s h (before ne x)
-
-pub value_at_lem : (sample list : List ℕ) (j first second : ℕ) → first ≡ first_at list j → second ≡ second_at list j → value_by sample first second ≡ value_at sample list j
-value_at_lem sample list j first second p q = rw (p, q) refl
-
--- two lists, one after the other
-pub stored_pair : (g k : ℕ → ℤ) (fine coarse : List ℕ) (row₀ row₁ row₂ : List ℤ) (f : ℕ → ℤ) → Stored g fine (count_of fine) row₀ row₁ → Stored k coarse (count_of coarse) row₁ row₂ → ((j : ℕ) → j < count_of fine → g j ≡ f (slot_at fine j)) → ((j : ℕ) → j < count_of coarse → k j ≡ f (slot_at coarse j)) → (s : ℕ) → s < row_size → (get_or row₀ s (pos 0) ≡ f s) ⊎ (Among fine (count_of fine) s ⊎ Among coarse (count_of coarse) s) → get_or row₂ s (pos 0) ≡ f s
-stored_pair g k fine coarse row₀ row₁ row₂ f d e a b s h (inl r) = e f b s h (inl (d f a s h (inl r)))
-stored_pair g k fine coarse row₀ row₁ row₂ f d e a b s h (inr (inl x)) = e f b s h (inl (d f a s h (inr x)))
-stored_pair g k fine coarse row₀ row₁ row₂ f d e a b s h (inr (inr x)) = e f b s h (inr x)
+        go : Dec (s ≡ x.slot) → get_or (set row x.slot v) s (pos 0) ≡ f s
+        go (yes i) = rw i (get_or-set_same row x.slot v (pos 0) (rw l b) ∙ e ∙ rw q (right j (omega arith)))
+        go (no ne) = get_or-set_other row x.slot s v (pos 0) ne ∙ d f (λ i c. right i (omega arith)) s h (before ne y)
 
 -- ---- numbers joined bit by bit
 
-pub or-none : (a b : ℕ) → bit_or a b ≡ 0 → (a ≡ 0) × (b ≡ 0)
+or-none : (a b : ℕ) → bit_or a b ≡ 0 → (a ≡ 0) × (b ≡ 0)
 or-none a b e = (omega (arith, or_add_and a b, and_le_l a b, and_le_r a b), omega (arith, or_add_and a b, and_le_l a b, and_le_r a b))
 
-pub or-zeros : (a b : ℕ) → a ≡ 0 → b ≡ 0 → bit_or a b ≡ 0
+or-zeros : (a b : ℕ) → a ≡ 0 → b ≡ 0 → bit_or a b ≡ 0
 or-zeros a b p q = rw (p, q) (or_zero_l 0)
 
-pub lit-none : (v : ℕ → ℕ) → NoneLit 0 v 0
-lit-none v = ((λ e j h. absurd (omega arith)), (λ z. refl))
-
-pub lit-more : (r : ℕ) (v : ℕ → ℕ) (j x : ℕ) → x ≡ v j → NoneLit r v j → NoneLit (bit_or r x) v (j + 1)
-lit-more r v j x e d =
-    ((λ z i h. go z i h (ℕ_discrete i j)), (λ z. or-zeros r x (d.1 (λ i h. z i (omega arith))) (e ∙ z j (omega arith))))
+pub lit-more : (r : ℕ) (v : Signal → ℕ) (list : List Signal) (j n : ℕ) (x : Signal) → x ≡ signal_at list j → n ≡ v x → NoneLit r v list j → NoneLit (bit_or r n) v list (j + 1)
+lit-more r v list j n x q e d =
+    ((λ z i h. go z i h (ℕ_discrete i j)), (λ z. or-zeros r n (d.1 (λ i h. z i (omega arith))) (e ∙ rw q (z j (omega arith)))))
   where
-    go : bit_or r x ≡ 0 → (i : ℕ) → i < j + 1 → Dec (i ≡ j) → v i ≡ 0
-    go z i h (yes q) = rw q (sym e ∙ (or-none r x z).1)
-    go z i h (no ne) = d.0 (or-none r x z).0 i (omega arith)
+    go : bit_or r n ≡ 0 → (i : ℕ) → i < j + 1 → Dec (i ≡ j) → v (signal_at list i) ≡ 0
+    go z i h (yes k) = rw (k, ← q) (sym e ∙ (or-none r n z).1)
+    go z i h (no ne) = d.0 (or-none r n z).0 i (omega arith)
+
+-- ---- the two lists of a kind, one after the other
+
+module _ (kind : Kind) (fine coarse : List Signal) (p : fine ≡ kind.fine) (q : coarse ≡ kind.coarse) where
+  pub both_stored : (g : Signal → ℤ) (row₀ row₁ row₂ : List ℤ) → Stored g fine (length fine) row₀ row₁ → Stored g coarse (length coarse) row₁ row₂ → BothStored g kind row₀ row₂
+  both_stored g row₀ row₁ row₂ d₀ e₀ f a b s h = go
+    where
+      d : Stored g kind.fine (length kind.fine) row₀ row₁
+      d = rw p at d₀
+
+      e : Stored g kind.coarse (length kind.coarse) row₁ row₂
+      e = rw q at e₀
+
+      go : (get_or row₀ s (pos 0) ≡ f s) ⊎ In kind s → get_or row₂ s (pos 0) ≡ f s
+      go (inl r) = e f b s h (inl (d f a s h (inl r)))
+      go (inr (inl x)) = e f b s h (inl (d f a s h (inr x)))
+      go (inr (inr x)) = e f b s h (inr x)
+
+  pub none_lit_in : (v : Signal → ℕ) (m n : ℕ) → NoneLit m v fine (length fine) → NoneLit n v coarse (length coarse) → NoneLitIn (bit_or m n) v kind
+  none_lit_in v m n d₀ e₀ = ((λ z. let o = or-none m n z in (d.0 o.0, e.0 o.1)), (λ z. or-zeros m n (d.1 z.0) (e.1 z.1)))
+    where
+      d : NoneLit m v kind.fine (length kind.fine)
+      d = rw p at d₀
+
+      e : NoneLit n v kind.coarse (length kind.coarse)
+      e = rw q at e₀

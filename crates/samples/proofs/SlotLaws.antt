@@ -1,5 +1,5 @@
 -- What each slot holds: by its kind, by the octets of a signal that is listed, and where no octet says anything else.
-use Prim.Native.Nat.{ℕ, zero, suc, ◌+◌, ◌-◌, ◌*◌, ◌/◌, ◌^◌, ◌<◌, ◌≤◌}
+use Prim.Native.Nat.{ℕ, zero, suc, ◌+◌, ◌-◌, ◌*◌, ◌^◌, ◌<◌, ◌≤◌}
 use native.Mathlib.Nat.{zero-div, div-one, pow-succ'}
 use native.Mathlib.Omega.{arith}
 use native.Mathlib.Decide.{dec_lt, ℕ_discrete}
@@ -10,10 +10,11 @@ use lib.ListN.{length, get_or}
 use lib.Pow.{pow-add}
 use lib.IntN.{pos}
 use borrow.Author.Tests.{lt-ltb, le-ltb, eq-eqb, ne_eqb, eqb-true}
+use Rattle.samples.specs.declared.signals.Signal.{Signal}
 use Rattle.samples.specs.Limits.{row_size}
 use Rattle.samples.specs.Roles.{first_octet_of, precision_of, place_of}
 use Rattle.samples.specs.Row.{value_of, signed, hint_in, colour_scale, colour_of, wave_of, slot_of}
-use Rattle.samples.specs.Signals.{Tabled, is_free, Signal, value_by}
+use Rattle.samples.specs.Signals.{Tabled, is_free, Found, value_by, value_in, signed_in, scaled_in}
 use Rattle.samples.specs.Plan.{rest_of}
 
 -- 2 to the power 2 c is 4 to the power c
@@ -100,29 +101,29 @@ module _ (roles places sample : List ℕ) (t : Tabled places roles) where
 
   -- ---- what is stored of a listed signal
 
-  module _ (waves : List ℕ) (start count : ℕ) (precise : Bool) (s first second : ℕ) (d : Signal places (length roles) waves start count precise s first second) where
-    listed : s < row_size → value_by sample first second ≡ value_of roles sample s
-    listed h = value_is s first second h d.placed d.refined d.within
+  module _ (waves : List ℕ) (start count : ℕ) (precise : Bool) (x : Signal) (d : Found places (length roles) waves start count precise x) where
+    listed : x.slot < row_size → value_in sample x ≡ value_of roles sample x.slot
+    listed h = value_is x.slot x.first x.second h d.placed d.refined d.within
 
-    pub coordinate_is : start + count ≤ 5 → signed (value_by sample first second) ≡ slot_of roles waves sample s
+    pub coordinate_is : start + count ≤ 5 → signed_in sample x ≡ slot_of roles waves sample x.slot
     coordinate_is l =
-        let h : s < 5 = omega (arith, d.high) in
-        ap signed (listed (omega arith)) ∙ sym (slot-coordinate roles waves sample s h)
+        let h : x.slot < 5 = omega (arith, d.high) in
+        ap signed (listed (omega arith)) ∙ sym (slot-coordinate roles waves sample x.slot h)
 
-    pub scaled_is : 8 ≤ start → start + count ≤ 16 → value_by sample first second / 2 ^ (colour_scale (hint_in roles sample) * 2) ≡ colour_of roles sample (s - 8)
+    pub scaled_is : 8 ≤ start → start + count ≤ 16 → scaled_in (colour_scale (hint_in roles sample) * 2) sample x ≡ colour_of roles sample (x.slot - 8)
     unfolding colour_of
     scaled_is l b =
-        let e : s - 8 + 8 ≡ s = omega (arith, d.low) in
+        let e : x.slot - 8 + 8 ≡ x.slot = omega (arith, d.low) in
         rw (listed (omega (arith, d.high)), pow-four (colour_scale (hint_in roles sample)), e) refl
 
-    pub colour_is : 8 ≤ start → start + count ≤ 16 → pos (value_by sample first second / 2 ^ (colour_scale (hint_in roles sample) * 2)) ≡ slot_of roles waves sample s
+    pub colour_is : 8 ≤ start → start + count ≤ 16 → pos (scaled_in (colour_scale (hint_in roles sample) * 2) sample x) ≡ slot_of roles waves sample x.slot
     colour_is l b =
-        ap pos (scaled_is l b) ∙ sym (slot-colour roles waves sample s (omega (arith, d.low)) (omega (arith, d.high)))
+        ap pos (scaled_is l b) ∙ sym (slot-colour roles waves sample x.slot (omega (arith, d.low)) (omega (arith, d.high)))
 
-    pub wave_is : 16 ≤ start → start + count ≤ row_size → pos (value_by sample first second / 2 ^ 0) ≡ slot_of roles waves sample s
+    pub wave_is : 16 ≤ start → start + count ≤ row_size → pos (scaled_in 0 sample x) ≡ slot_of roles waves sample x.slot
     wave_is l b =
-        let u : 16 ≤ s = omega (arith, d.low) in
-        ap pos (div-one _ ∙ listed (omega (arith, d.high))) ∙ sym (slot-free roles waves sample s u (free-none waves s u d.free))
+        let u : 16 ≤ x.slot = omega (arith, d.low) in
+        ap pos (div-one _ ∙ listed (omega (arith, d.high))) ∙ sym (slot-free roles waves sample x.slot u (free-none waves x.slot u d.free))
 
 pub colour-zero : (roles sample : List ℕ) (k : ℕ) → value_of roles sample (k + 8) ≡ 0 → colour_of roles sample k ≡ 0
 unfolding colour_of

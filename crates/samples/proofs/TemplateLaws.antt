@@ -3,9 +3,9 @@ use Prim.Native.Nat.{ℕ, ◌+◌, ◌-◌, ◌*◌, ◌<◌, ◌≤◌}
 use native.Mathlib.Omega.{arith}
 use native.Mathlib.Decide.{ℕ_discrete, dec_lt}
 use mathlib.Core.Path.{◌≡◌, refl, sym, ◌∙◌}
-use mathlib.Core.Bool.{Bool, true, false, cond}
+use mathlib.Core.Bool.{Bool, cond}
 use mathlib.Core.List.{List}
-use lib.ListN.{length, get_or, take, length-take, get_or-eq_default, set, replicate, get_or-replicate, length-replicate, length-set}
+use lib.ListN.{length, get_or, set, replicate, get_or-replicate, length-replicate, length-set}
 use lib.Seq.{get_or-set_same, get_or-set_other}
 use lib.IntN.{ℤ, pos}
 use lib.Dec.{ltb, eqb}
@@ -18,10 +18,6 @@ abbrev pub Waved : Bool → List ℕ → List ℤ → ℕ → Type 0
 Waved shutter waves row k =
     (length row ≡ row_size)
     × ((s : ℕ) → s < row_size → get_or row s (pos 0) ≡ cond (ltb s (16 + k)) (rest_of shutter waves s) (pos 0))
-
--- past the first n there is nothing
-pub get_or-take_past : (l : List ℕ) (n k : ℕ) → n ≤ k → get_or (take n l) k 0 ≡ 0
-get_or-take_past l n k h = get_or-eq_default (take n l) 0 (simp length-take (omega arith))
 
 module _ (shutter : Bool) (waves : List ℕ) where
   -- the shutter's slot, and zeros
@@ -67,29 +63,15 @@ module _ (shutter : Bool) (waves : List ℕ) where
           let r = rest-wave (s - 16) in
           rw (le-ltb s (16 + k) (omega arith)) (sym ((rw e at r) ∙ rw (z (s - 16) (omega arith) (omega arith)) refl))
 
--- ---- the two rows to start from
+-- ---- the row to start from
 
 abbrev pub zeros : List ℤ
 zeros = replicate row_size (pos 0)
 
-zeros_at : (s : ℕ) → s < row_size → get_or zeros s (pos 0) ≡ cond (eqb s 5) (pos (cond true 0 1)) (pos 0)
-zeros_at s h = get_or-replicate row_size s (pos 0) (pos 0) h ∙ go (eqb s 5)
+pub waved_first : (shutter : Bool) (waves : List ℕ) (v : ℤ) → v ≡ pos (cond shutter 0 1) → Waved shutter waves (set zeros 5 v) 0
+waved_first shutter waves v e =
+    waved_none shutter waves (set zeros 5 v) (length-set zeros 5 v ∙ length-replicate row_size (pos 0)) (λ s h. go s h (ℕ_discrete s 5))
   where
-    go : (b : Bool) → pos 0 ≡ cond b (pos 0) (pos 0)
-    go true = refl
-    go false = refl
-
-shutter_at : (s : ℕ) → s < row_size → get_or (set zeros 5 (pos 1)) s (pos 0) ≡ cond (eqb s 5) (pos (cond false 0 1)) (pos 0)
-shutter_at s h = go (ℕ_discrete s 5)
-  where
-    go : Dec (s ≡ 5) → get_or (set zeros 5 (pos 1)) s (pos 0) ≡ cond (eqb s 5) (pos 1) (pos 0)
-    go (yes q) = rw q refl
-    go (no ne) = get_or-set_other zeros 5 s (pos 1) (pos 0) ne ∙ get_or-replicate row_size s (pos 0) (pos 0) h ∙ rw (ne_eqb s 5 ne) refl
-
-pub waved_zeros : (shutter : Bool) (waves : List ℕ) (row : List ℤ) → shutter ≡ true → row ≡ zeros → Waved shutter waves row 0
-waved_zeros shutter waves row e q =
-    waved_none shutter waves row (rw q (length-replicate row_size (pos 0))) (λ s h. rw (q, e) (zeros_at s h))
-
-pub waved_shutter : (shutter : Bool) (waves : List ℕ) (row : List ℤ) → shutter ≡ false → row ≡ set zeros 5 (pos 1) → Waved shutter waves row 0
-waved_shutter shutter waves row e q =
-    waved_none shutter waves row (rw q (length-set zeros 5 (pos 1) ∙ length-replicate row_size (pos 0))) (λ s h. rw (q, e) (shutter_at s h))
+    go : (s : ℕ) → s < row_size → Dec (s ≡ 5) → get_or (set zeros 5 v) s (pos 0) ≡ cond (eqb s 5) (pos (cond shutter 0 1)) (pos 0)
+    go s h (yes q) = rw q e
+    go s h (no ne) = get_or-set_other zeros 5 s v (pos 0) ne ∙ get_or-replicate row_size s (pos 0) (pos 0) h ∙ rw (ne_eqb s 5 ne) refl

@@ -1,108 +1,60 @@
 // The points of a chunk, one row after the other.
-ghost use Rattle.std.specs.Prelude.{◌≡◌, cond, ◌++◌, ◌-◌, ◌*◌, ◌/◌, ◌≤◌, length, take, drop};
-ghost use Rattle.samples.specs.Limits.{octet_limit, row_size};
-ghost use Rattle.samples.specs.Points.{rows_of, behind, lit_in};
+ghost use Rattle.std.specs.Prelude.{◌≡◌, ◌++◌, ◌*◌, ◌≤◌, drop, length};
+ghost use Rattle.samples.specs.Limits.{colour_limit, octet_limit, row_size};
+ghost use Rattle.samples.specs.Points.{behind, lit_points_in, rows_of, samples_in, samples_of};
+ghost use Rattle.samples.specs.Plan.{Ready};
 
-use super::limits::{COLOUR_LIMIT, OCTET_LIMIT, ROW};
-use super::{places, plan, row};
+use super::limits::ROW;
+use super::plan::Plan;
 
-// How many whole samples that many octets hold, none of width 0.
-pub fn samples_in(octets: usize, width: usize) -> usize
-    ensures { result ≡ octets / width }
+// How many whole samples of `width` octets the octets are, none of width 0. crates/tags has the like for a type: one public function for
+// both would be longer than the line.
+pub fn samples_in(width: usize, octets: &[u8]) -> usize
+    ensures { result ≡ samples_of width (length octets.now) }
 {
-    if width == 0 {
-        return 0;
-    }
-    octets / width
+    octets.len().checked_div(width).unwrap_or(0)
 }
 
-fn bit(b: bool) -> usize
-    ensures { result ≡ cond b 1 0 }
+// The rows of the samples by their plan. Out of line, and the template by value: so the template stays in registers and the plan where it
+// is, while in line the compiler copies each place of the plan, which takes 500 octets of stack more. Parts by an index: with
+// `chunks_exact` a point takes 10 to 12 instructions more, and a sparse one may take 3.
+#[inline(never)]
+fn draw_rows(plan: &Plan, width: usize, start: usize, octets: &[u8], rows: &mut [i32]) -> usize
+    requires { Ready plan.now width × (samples_of width (length octets.now) * row_size ≤ length rows.old) }
+    ensures rows { (d : Ready plan.now width) → rows.new ≡ rows_of d.roles d.waves octets.now (samples_of width (length octets.now)) ++ drop (samples_of width (length octets.now) * row_size) rows.old }
+    ensures lit { (d : Ready plan.now width) → result ≡ lit_points_in d.roles (behind d.roles start octets.now) }
 {
-    if b {
-        return 1;
-    }
-    0
-}
-
-// The lit points so far: none before the start samples are passed.
-fn counted(passed: bool, lit: usize) -> usize
-    ensures { result ≡ cond passed lit 0 }
-{
-    if passed {
-        return lit;
-    }
-    0
-}
-
-// The rows of the samples, and how many of the points behind the first `start` samples are lit.
-pub fn draw_all(
-    roles: &[u8; OCTET_LIMIT],
-    width: usize,
-    fixed: &[u16; COLOUR_LIMIT],
-    colours: usize,
-    start: usize,
-    samples: usize,
-    octets: &[u8],
-    rows: &mut [i32],
-) -> usize
-    requires { (width ≤ octet_limit) × (width ≤ length roles.now) × (samples * width ≤ length octets.now) × (samples * row_size ≤ length rows.old) }
-    ensures { (rows.new
-        ≡ rows_of (take width roles.now) (take colours fixed.now) octets.now samples
-        ++ drop (samples * row_size) rows.old)
-        × (result ≡ lit_in (take width roles.now) (behind (take width roles.now) start octets.now) (samples - start)) }
-{
-    let plan = plan::prepare(roles, width, fixed, colours);
-    let singles = plan.singles;
+    let template = plan.template;
     let mut lit = 0;
-    let mut i = 0;
-    let mut at = 0;
-    let mut from = 0;
-    while i < samples {
-        let end = at + width;
-        let to = from + ROW;
-        let shown = row::draw(
-            &plan.template,
-            &plan.coordinates.fine,
-            &plan.coordinates.coarse,
-            &plan.colours.fine,
-            &plan.colours.coarse,
-            &plan.waves.fine,
-            &plan.waves.coarse,
-            singles,
-            &octets[at..end],
-            &mut rows[from..to],
-        );
-        lit = counted(start <= i, lit + bit(shown));
-        at = end;
-        from = to;
-        i += 1;
+    for i in 0..samples_in(width, octets) {
+        let sample = &octets[i * width..(i + 1) * width];
+        let shown = plan.draw(&template, sample, &mut rows[i * ROW..(i + 1) * ROW]);
+        lit += usize::from(shown & (start <= i));
     }
     lit
 }
 
-// How many points behind the first `start` samples are lit: each is drawn by itself, over the same row. `draw_all` has the only call of
-// `row::draw`: with a second one the compiler no longer puts it in line, and drawing takes twice as long.
-pub fn count_lit(
-    roles: &[u8; OCTET_LIMIT],
-    width: usize,
-    start: usize,
-    samples: usize,
-    octets: &[u8],
-) -> usize
-    requires { (width ≤ octet_limit) × (width ≤ length roles.now) × (samples * width ≤ length octets.now) }
-    ensures { result ≡ lit_in (take width roles.now) (behind (take width roles.now) start octets.now) (samples - start) }
+// The rows of the samples, and how many of the points behind the first `start` samples are lit.
+pub fn draw_all(roles: &[u8], waves: &[u16], start: usize, octets: &[u8], rows: &mut [i32]) -> usize
+    requires { (length roles.now ≤ octet_limit) × (length waves.now ≤ colour_limit) × (samples_in roles.now octets.now * row_size ≤ length rows.old) }
+    ensures rows { rows.new ≡ rows_of roles.now waves.now octets.now (samples_in roles.now octets.now) ++ drop (samples_in roles.now octets.now * row_size) rows.old }
+    ensures lit { result ≡ lit_points_in roles.now (behind roles.now start octets.now) }
 {
-    let fixed = [0u16; COLOUR_LIMIT];
-    let mut row = [0i32; ROW];
+    draw_rows(&Plan::new(roles, waves), roles.len(), start, octets, rows)
+}
+
+// How many points behind the first `start` samples are lit: each is drawn by itself, over the same row. `draw_rows` has the only call of
+// `Plan::draw`: with a second one the compiler no longer puts it in line, and drawing takes twice as long. By an
+// index from the first sample that counts: `chunks_exact` asks for a width above 0, and there may be none.
+pub fn count_lit(roles: &[u8], start: usize, octets: &[u8]) -> usize
+    requires { length roles.now ≤ octet_limit }
+    ensures { result ≡ lit_points_in roles.now (behind roles.now start octets.now) }
+{
+    let width = roles.len();
+    let mut row = [0; ROW];
     let mut lit = 0;
-    let mut i = places::least(start, samples);
-    let mut at = i * width;
-    while i < samples {
-        let past = at + width;
-        lit += draw_all(roles, width, &fixed, 0, 0, 1, &octets[at..past], &mut row);
-        at = past;
-        i += 1;
+    for i in start..samples_in(width, octets) {
+        lit += draw_all(roles, &[], 0, &octets[i * width..(i + 1) * width], &mut row);
     }
     lit
 }

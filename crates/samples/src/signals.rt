@@ -1,97 +1,134 @@
-// Lists of the signals that differ from point to point. The signals of one kind are two lists, those with a precision octet and
-// those without, so that no loop over a list tests whether an octet is there.
-ghost use Rattle.std.specs.Prelude.{◌≡◌, ◌+◌, ◌<◌, ◌≤◌, get_or, take, length};
+// The signals that differ from point to point, listed once a chunk. Those of one kind are two lists, of the signals with a precision
+// octet and of those without, so that no loop over a list tests whether an octet is there.
+ghost use Rattle.std.specs.Prelude.{◌≡◌, ◌+◌, ◌-◌, ◌<◌, ◌≤◌, false, get_or, length, ltb, pos, true};
 ghost use Rattle.samples.specs.Limits.{colour_limit, row_size};
-ghost use Rattle.samples.specs.Signals.{list_size, count_of, is_free, Added, Gathered};
+ghost use Rattle.samples.specs.Signals.{BothReadable, BothStored, Gathered, NoneLit, NoneLitIn, Readable, Stored, is_free, scaled_in, signed_in};
 
+use super::fixed_list::FixedList;
 use super::limits::COLOUR_LIMIT;
-use super::places::TABLE;
-use super::{octets, places, roles, waves};
+use super::places::Places;
+use std::ops::Range;
 
-// A list has room for as many signals as there are colours: their slots, from FIRSTS on the places of their first octets, from
-// SECONDS on those of their precision octets, and at COUNT how many they are.
-pub const FIRSTS: usize = 8;
-
-pub const SECONDS: usize = 16;
-
-pub const COUNT: usize = 24;
-
-pub const LIST: usize = 25;
+// A slot, and the places of its signal's two octets; that of a precision octet which a sample hasn't is at or past the sample's end. An `Option`
+// there is no plainer: which list a signal stands in says already whether it has the octet, and no loop may test it for each point.
+#[derive(Clone, Copy, Default)]
+pub struct Signal {
+    pub slot: u8,
+    pub first: u8,
+    pub second: u8,
+}
 
 // The signals of one kind, with a precision octet and without.
-#[derive(Clone, Copy)]
+#[derive(Drop)]
 pub struct Kind {
-    pub fine: [u8; LIST],
-    pub coarse: [u8; LIST],
+    fine: FixedList<Signal, COLOUR_LIMIT>,
+    coarse: FixedList<Signal, COLOUR_LIMIT>,
 }
 
-// A number of a list, as a place or an index.
-pub fn number(list: &[u8; LIST], at: usize) -> usize
-    requires { at < list_size }
-    ensures { result ≡ get_or list.now at 0 }
+// The slot has no fixed wavelength.
+#[tactic(auto, unfolding(crate::specs::Signals::is_free))]
+fn is_free(waves: &[u16], slot: usize) -> bool
+    ensures { result ≡ is_free waves.now slot }
 {
-    octets::index(list[at])
+    slot < 16 || waves.get(slot - 16).copied().unwrap_or(0) == 0
 }
 
-// How many signals a list has. They are no more than COLOUR_LIMIT as it is: saying so again lets the compiler unroll the loops.
-pub fn count(list: &[u8; LIST]) -> usize
-    requires { count_of list.now ≤ colour_limit }
-    ensures { result ≡ count_of list.now }
-{
-    places::least(number(list, COUNT), COLOUR_LIMIT)
-}
-
-// Slot s has no fixed wavelength.
-fn free(fixed: &[u16; COLOUR_LIMIT], colours: usize, s: usize) -> bool
-    requires { s < row_size }
-    ensures { result ≡ is_free (take colours fixed.now) s }
-{
-    if s < 16 {
-        return true;
+impl Signal {
+    // The precision octet, 0 where there is none; `precise` says whether there is one. It goes along, since callers know it of a whole list, so
+    // that no loop tests it.
+    fn low(&self, precise: bool, sample: &[u8]) -> u8
+        requires { ltb self.now.second (length sample.now) ≡ precise }
+        ensures { result ≡ get_or sample.now self.now.second 0 }
+    {
+        if precise {
+            sample[usize::from(self.second)]
+        } else {
+            0
+        }
     }
-    waves::wave(fixed, colours, s - 16) == 0
+
+    // The value with its sign, which is that of the first octet.
+    fn signed(&self, precise: bool, sample: &[u8]) -> i32
+        requires { (self.now.first < length sample.now) × (ltb self.now.second (length sample.now) ≡ precise) }
+        ensures { result ≡ signed_in sample.now self.now }
+    {
+        let high = i32::from(sample[usize::from(self.first)].cast_signed());
+        high * 256 + i32::from(self.low(precise, sample))
+    }
+
+    // The value, divided by 2 to the power `shift`. That `shift` is below 8 stands in four clauses: a type of its own would be made of each
+    // hint and read here alone.
+    pub fn scaled(&self, precise: bool, shift: u8, sample: &[u8]) -> u32
+        requires { (self.now.first < length sample.now) × (ltb self.now.second (length sample.now) ≡ precise) × (shift < 8) }
+        ensures value { result ≡ scaled_in shift sample.now self.now }
+        ensures fits { result < 65536 }
+    {
+        let high = u32::from(sample[usize::from(self.first)]);
+        (high * 256 + u32::from(self.low(precise, sample))) >> shift
+    }
 }
 
-// Adds a signal to a list, if it is wanted there.
-fn add(list: &mut [u8; LIST], wanted: bool, slot: u8, first: u8, second: u8)
-    requires { (length list.old ≡ list_size) × (count_of list.old < colour_limit) }
-    ensures { Added list.old wanted slot first second list.new }
+// The signals of a list with their signs. Beside `put_scaled`, which shifts each and tells whether all are 0: one function of both would take the
+// number, the shift and what is joined from its caller, and be no plainer.
+fn put_signed(list: &[Signal], precise: bool, sample: &[u8], row: &mut [i32])
+    requires { (length row.old ≡ row_size) × Readable list.now precise (length sample.now) }
+    ensures { Stored (signed_in sample.now) list.now (length list.now) row.old row.new }
 {
-    if !wanted {
-        return;
+    for signal in list {
+        row[usize::from(signal.slot)] = signal.signed(precise, sample);
     }
-    let count = list[COUNT];
-    let n = octets::index(count);
-    list[n] = slot;
-    list[n + FIRSTS] = first;
-    list[n + SECONDS] = second;
-    list[COUNT] = count + 1;
 }
 
-// The signals of the `count` slots from `start` on that have a first octet and no fixed wavelength.
-pub fn gather(
-    places: &[u8; TABLE],
-    width: usize,
-    fixed: &[u16; COLOUR_LIMIT],
-    colours: usize,
-    start: usize,
-    count: usize,
-) -> Kind
-    requires { (start + count ≤ row_size) × (count ≤ colour_limit) }
-    ensures { Gathered places.now width (take colours fixed.now) start count count result.fine result.coarse }
+// The signals of a list, divided by 2 to the power `shift`; and a number that is 0 if all of theirs are.
+fn put_scaled(list: &[Signal], precise: bool, shift: u8, sample: &[u8], row: &mut [i32]) -> u32
+    requires { (length row.old ≡ row_size) × (shift < 8) × Readable list.now precise (length sample.now) }
+    ensures stored { Stored (λ x. pos (scaled_in shift sample.now x)) list.now (length list.now) row.old row.new }
+    ensures dark { NoneLit result (scaled_in shift sample.now) list.now (length list.now) }
 {
-    let mut fine = [0u8; LIST];
-    let mut coarse = [0u8; LIST];
-    let mut i = 0;
-    while i < count {
-        let s = start + i;
-        let first = places[s + roles::FIRST_OCTET];
-        let second = places[s + roles::PRECISION_OCTET];
-        let here = free(fixed, colours, s) & (octets::index(first) < width);
-        let precise = octets::index(second) < width;
-        add(&mut fine, here & precise, s as u8, first, second);
-        add(&mut coarse, here & !precise, s as u8, first, second);
-        i += 1;
+    let mut joined = 0;
+    for signal in list {
+        let value = signal.scaled(precise, shift, sample);
+        row[usize::from(signal.slot)] = value as i32;
+        joined |= value;
     }
-    Kind { fine, coarse }
+    joined
+}
+
+impl Kind {
+    // The signals of the slots that have a first octet and no fixed wavelength.
+    pub fn gather(places: &Places, waves: &[u16], slots: Range<usize>) -> Self
+        requires { (slots.start ≤ slots.end) × (slots.end ≤ row_size) × (slots.end ≤ slots.start + colour_limit) }
+        ensures { Gathered places.now.table places.now.width waves.now slots.start (slots.end - slots.start) (slots.end - slots.start) result }
+    {
+        let mut fine = FixedList::new(Signal::default());
+        let mut coarse = FixedList::new(Signal::default());
+        for slot in slots {
+            let signal = places.signal(slot);
+            if is_free(waves, slot) && places.within(signal.first) {
+                if places.within(signal.second) {
+                    fine.push(signal);
+                } else {
+                    coarse.push(signal);
+                }
+            }
+        }
+        Kind { fine, coarse }
+    }
+
+    pub fn put_signed(&self, sample: &[u8], row: &mut [i32])
+        requires { (length row.old ≡ row_size) × BothReadable self.now (length sample.now) }
+        ensures { BothStored (signed_in sample.now) self.now row.old row.new }
+    {
+        put_signed(self.fine.as_slice(), true, sample, row);
+        put_signed(self.coarse.as_slice(), false, sample, row);
+    }
+
+    pub fn put_scaled(&self, shift: u8, sample: &[u8], row: &mut [i32]) -> u32
+        requires { (length row.old ≡ row_size) × (shift < 8) × BothReadable self.now (length sample.now) }
+        ensures stored { BothStored (λ x. pos (scaled_in shift sample.now x)) self.now row.old row.new }
+        ensures dark { NoneLitIn result (scaled_in shift sample.now) self.now }
+    {
+        put_scaled(self.fine.as_slice(), true, shift, sample, row)
+            | put_scaled(self.coarse.as_slice(), false, shift, sample, row)
+    }
 }
