@@ -9,30 +9,35 @@ use mathlib.Core.List.{List, [], ◌∷◌}
 use lib.ListN.{length, replicate, length-replicate}
 use lib.Dec.{eqb}
 use borrow.Author.Tests.{eqb-true, eq-eqb}
+use Rattle.tags.specs.Choice.{first}
 use Rattle.tags.specs.Kept.{area_size}
 use Rattle.tags.specs.KeptLaws.{dictionary_kept, dimmer_tags_kept}
 use Rattle.receiver.specs.Message.{channel_of, routes, mode_of, service_of, match_bits, tags_of}
-use Rattle.receiver.specs.Modes.{graphic_mode, dimmer_mode, known_mode, service_fits}
-use Rattle.receiver.specs.Slices.{Slices, slices}
+use Rattle.receiver.specs.Modes.{graphic_mode, dimmer_mode, known_mode, service_fits, channel_count}
+use Rattle.receiver.specs.Slices.{Slices, slices, lengths}
+use Rattle.receiver.specs.Gathering.{whole_of}
 use Rattle.receiver.specs.Meters.{Sums}
-use Rattle.receiver.specs.Checks.{header_number, Standing, governed_in}
+use Rattle.receiver.specs.Checks.{header_number, route_number, governs, Standing, governed_in, number_of}
+use Rattle.receiver.specs.Effects.{bare_reply, slices_after}
 use Rattle.receiver.specs.Stream.{parts_in}
 use Rattle.receiver.specs.Sets.{member_number, standing_after, set_reply, replied_from, replied_to, standing_behind}
-use Rattle.receiver.specs.Record.{area_place, config_at, area_at, sums_of, standing_of, consistent}
-use Rattle.receiver.specs.Contract.{Answered, set_outcome, set_answer, Patched}
-use Rattle.receiver.specs.Steps.{RoutedTo, Governed}
+use Rattle.receiver.specs.Record.{area_place, config_at, area_at, channels_of, configuration_of, gathering_of, sums_of, standing_of, consistent_at, consistent, Config}
+use Rattle.receiver.specs.Contract.{outcome, Answered, set_outcome, set_answer, Patched}
+use Rattle.receiver.specs.Steps.{RoutedTo, counts_with, Handled, Found, Done}
 use Rattle.receiver.specs.declared.Receiver.{Receiver}
 use Rattle.receiver.specs.declared.Outcome.{Outcome}
 use Rattle.receiver.specs.declared.SetReply.{SetReply}
 use Rattle.receiver.specs.declared.SetOutcome.{SetOutcome}
-use Rattle.receiver.specs.declared.route.Found.{Found}
 use Rattle.receiver.proofs.CheckLaws.{channel-below}
 use Rattle.receiver.proofs.OctetLaws.{Octets, AllOctets, tags-octets, parts-octets}
 use Rattle.receiver.proofs.PartLaws.{length_part}
 use Rattle.receiver.proofs.RouteLaws.{routed, found-unknown, found-misfit, found-graphic, found-dimming, found-void}
-use Rattle.receiver.proofs.JudgeLaws.{governed-inconsistent, governed-header, governed-routed, governed-held}
+use Rattle.receiver.proofs.RecordLaws.{channels_of-below}
+use Rattle.receiver.proofs.SettleLaws.{consistent-each}
+use Rattle.receiver.proofs.JudgeLaws.{consistent-channels}
+use Rattle.receiver.proofs.RefusalLaws.{answered_inconsistent, answered-early}
 use Rattle.receiver.proofs.SizedLaws.{Sized, three_meters}
-use Rattle.receiver.proofs.AnswerLaws.{answer_of}
+use Rattle.receiver.proofs.AnswerLaws.{sized-next, answered}
 use Rattle.receiver.proofs.SetLaws.{member_type, member_accepted, void_sums, void_message_number, void_answered, replied-any}
 
 -- ---- a routing has a configuration
@@ -78,33 +83,59 @@ pub record Given (r : Receiver) (m : List ℕ) (s : Slices) : Type 0 where
   pub sized : Sized outcome.receiver
 
 module _ (r : Receiver) (z : Sized r) (m : List ℕ) (octets : Octets m) (s : Slices) where
-  -- something is found to govern it, or refuses it
-  governing-found : WithArea (Governed r m)
-  governing-found = by_checks (consistent r) (eqb (header_number m) 0) (routes m) refl refl refl
-    where
-      numbered : ℕ → Found
-      numbered n = record { number = n; config = config_at r (channel_of m) }
+  -- a refusal that leaves all as it was
+  refused_answer : (n : ℕ) → Answered r m s (outcome r (bare_reply n)) s → Given r m s
+  refused_answer n meets = record { outcome = outcome r (bare_reply n); left = s; meets = meets; sized = z }
 
-      by_checks : (a b c : Bool) → consistent r ≡ a → eqb (header_number m) 0 ≡ b → routes m ≡ c → WithArea (Governed r m)
-      by_checks false b c e h q = (numbered 1, blank, length-blank, governed-inconsistent r m (numbered 1) blank refl e)
-      by_checks true false c e h q =
-          (numbered (header_number m), blank, length-blank, governed-header r m e (numbered (header_number m)) blank (rw h) refl)
-      by_checks true true true e h q =
-          let found = routed-found (mode_of m) (service_of m) (match_bits m) (tags_of m) (tags-octets m octets) in
-          (found.0, found.1, found.2, governed-routed r m e (eqb-true (header_number m) 0 h) q found.0 found.1 found.3)
-      by_checks true true false e h q = (
-        numbered 0,
-        area_at r (channel_of m),
-        length_part area_size (area_place (channel_of m)) r.channels (rw z.channels (let below = channel-below m in omega (arith, below))),
-        governed-held r m e (eqb-true (header_number m) 0 h) q,
-      )
+  module _ (good : consistent r ≡ true) where
+    early_answer : (n : ℕ) → eqb n 0 ≡ false → n ≡ first (header_number m) (route_number m) → Given r m s
+    early_answer n e early = refused_answer n (answered-early r m s good n e early)
+
+    -- the answer by what governs the message
+    handled_answer : (k : Config) (area : List ℕ) → length area ≡ area_size → configuration_of k area ≡ governs m (channels_of r) → consistent_at k ≡ true → Given r m s
+    handled_answer k area w same sound =
+        let v = governs m (channels_of r) in
+        let g = gathering_of r s.assembly in
+        let n = number_of m (lengths s) (standing_of r s.assembly) in
+        let d : Done = record { number = n; counts = counts_with n (whole_of m v g) v } in
+        let handled : Handled r m s d (slices_after m n v g s) = record { number = refl; counts = refl; slices = refl } in
+        record {
+          outcome = _;
+          left = _;
+          meets = answered r z good m s d (slices_after m n v g s) handled k area w same sound;
+          sized = sized-next r z good m s d (slices_after m n v g s) handled k area w same sound;
+        }
+
+    routed_answer : header_number m ≡ 0 → routes m ≡ true → Given r m s
+    unfolding route_number governs
+    routed_answer header q =
+        let found = routed-found (mode_of m) (service_of m) (match_bits m) (tags_of m) (tags-octets m octets) in
+        go found.0 found.1 found.2 found.3 (eqb found.0.number 0) refl
+      where
+        go : (f : Found) (area : List ℕ) → length area ≡ area_size → RoutedTo (mode_of m) (service_of m) (match_bits m) (tags_of m) f area
+            → (t : Bool) → eqb f.number 0 ≡ t → Given r m s
+        go f area w to true e = let none = eqb-true f.number 0 e in handled_answer f.config area w (rw q (to.config none)) (to.sound none)
+        go f area w to false e = early_answer f.number e (rw (header, q) to.number)
+
+    held_answer : routes m ≡ false → Given r m s
+    unfolding governs
+    held_answer q =
+        let c = channel_of m in
+        let below = channel-below m in
+        handled_answer (config_at r c) (area_at r c)
+        (length_part area_size (area_place c) r.channels (rw z.channels (omega (arith, below))))
+        (rw q (sym (channels_of-below r c below)))
+        (consistent-each r.channels channel_count (consistent-channels r good) c below)
 
   -- so it has an answer
   pub answer : Given r m s
-  answer =
-      let found = governing-found in
-      let given = answer_of r z m s found.0 found.1 found.2 found.3 in
-      record { outcome = given.0; left = given.1; meets = given.2; sized = given.3 }
+  answer = by_checks (consistent r) (eqb (header_number m) 0) (routes m) refl refl refl
+    where
+      by_checks : (a b c : Bool) → consistent r ≡ a → eqb (header_number m) 0 ≡ b → routes m ≡ c → Given r m s
+      by_checks false b c e h q = refused_answer 1 (answered_inconsistent r m s (bare_reply 1) e refl)
+      by_checks true false c e h q = early_answer e (header_number m) h (rw h)
+      by_checks true true true e h q = routed_answer e (eqb-true (header_number m) 0 h) q
+      by_checks true true false e h q = held_answer e q
 
 -- ---- every set has an answer
 

@@ -13,9 +13,8 @@ use Rattle.receiver.specs.Modes.{channel_count}
 use Rattle.receiver.specs.Governing.{Configuration, closed, meant}
 use Rattle.receiver.specs.Checks.{governs}
 use Rattle.receiver.specs.Effects.{governing_after}
-use Rattle.receiver.specs.Record.{record_in, record_size, config_in, area_in, channels_of, configuration_of, consistent_at, consistent_up_to}
+use Rattle.receiver.specs.Record.{record_in, record_size, config_in, area_in, channels_of, configuration_of, consistent_at, consistent_up_to, Config}
 use Rattle.receiver.specs.Steps.{stored_in, closed_by, settled_in}
-use Rattle.receiver.specs.declared.Config.{Config}
 use Rattle.receiver.specs.declared.Receiver.{Receiver}
 use Rattle.receiver.proofs.CheckLaws.{channel-below}
 use Rattle.receiver.proofs.RecordLaws.{configuration_closed, consistent-closed}

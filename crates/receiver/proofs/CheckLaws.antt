@@ -9,15 +9,15 @@ use lib.ListN.{length, length-drop}
 use lib.Dec.{ltb, eqb, eqb-suc-zero, lit≤}
 use borrow.Author.Tests.{eqb-true, ltb-false}
 use Rattle.tags.specs.Choice.{refuse, first}
-use Rattle.tags.specs.ChoiceLaws.{and_left, or-false_left, or-false_right, first-zero_left, first-zero_right, refuse-zero}
-use Rattle.receiver.specs.Message.{total_size, top_bit, channel_of, type_of, configured, routes, data_start, data_of}
+use Rattle.tags.specs.ChoiceLaws.{or-false_left, or-false_right, first-zero_left, first-zero_right, refuse-zero}
+use Rattle.receiver.specs.Message.{total_size, channel_of, routes, data_of}
 use Rattle.receiver.specs.Modes.{exclusive_mode, channel_count}
 use Rattle.receiver.specs.Governing.{Governing, Configuration, routed_by, meant}
 use Rattle.receiver.specs.Slices.{Lent}
-use Rattle.receiver.specs.Chunk.{chunk_of, known_type}
+use Rattle.receiver.specs.Chunk.{chunk_of}
 use Rattle.receiver.specs.Gathering.{Gathering, whole_of}
 use Rattle.receiver.specs.Meters.{Sums, sums, plus, limit, over_limit, NotAbove, added_by}
-use Rattle.receiver.specs.Checks.{least_message, largest_message, most_octets, wrong_length, passes_end, header_number, routing_number, route_number, held_elsewhere, holder_number, closed_number, governs, sequel_number, match_number, room_number, content_number, meter_number, Standing, governed_in, whole_number, first_number_of, in_order, number_of, own_number}
+use Rattle.receiver.specs.Checks.{least_message, largest_message, most_octets, wrong_length, header_number, routing_number, route_number, held_elsewhere, holder_number, closed_number, governs, sequel_number, match_number, room_number, content_number, meter_number, Standing, governed_in, whole_number, first_number_of, in_order, number_of, own_number}
 use Rattle.receiver.specs.Effects.{sums_after}
 
 -- ---- the order: the checks on the message itself, then those on the whole
@@ -114,23 +114,10 @@ module _ (m : List ℕ) (passed : header_number m ≡ 0) where
       (or-false_right (ltb (length m) least_message) (ltb largest_message (length m))
       (or-false_left (ltb (length m) least_message || ltb largest_message (length m)) (not (eqb (length m) (total_size m))) right_length))
 
-  -- the data section starts within the message
-  pub data_start_lem : data_start m ≤ length m
-  unfolding header_number
-  data_start_lem =
-      ltb-false (length m) (data_start m)
-      (refuse-zero (passes_end m) 5 (lit≤ tt)
-      (first-zero_right (refuse (not (known_type (type_of m))) 4) _
-      (first-zero_right (refuse (eqb (top_bit m) 0) 3) _ (first-zero_right (refuse (wrong_length m) 2) _ passed))))
-
   -- and is no longer than the steps of a chunk take
   pub data_length : length (data_of m) ≤ most_octets
   unfolding data_of
   data_length = let whole = message-length in rw length-drop (omega arith)
-
--- with Routing the data section starts after the configuration header
-pub routing-start : (m : List ℕ) → routes m ≡ true → 12 ≤ data_start m
-routing-start m e = rw (and_left (configured m) _ e) (omega arith)
 
 pub channel-below : (m : List ℕ) → channel_of m < channel_count
 channel-below m = omega arith

@@ -4,32 +4,28 @@ use Prim.Native.Nat.{ℕ, ◌*◌, ◌≤◌}
 use mathlib.Core.Bool.{Bool, true, false, cond, not, ◌&&◌, ◌||◌}
 use mathlib.Core.List.{List}
 use mathlib.Core.Logic.{⊎_elim}
-use native.Mathlib.Nat.{le_trans}
-use native.Mathlib.Omega.{arith}
 use lib.IntN.{ℤ}
-use lib.ListN.{length, length-drop}
+use lib.ListN.{length}
 use lib.Dec.{leb, eqb, lit≤}
 use borrow.Author.Tests.{ltb-false, le-leb, eqb-true, not-false}
 use Rattle.tags.specs.Rows.{sample_octets, points_by, room_by, drawn_by}
-use Rattle.tags.specs.RowsLaws.{lit_points-behind-le-points, points-le-octets}
+use Rattle.tags.specs.RowsLaws.{lit_points-behind-le-points}
 use Rattle.tags.specs.Dictionary.{Sample}
 use Rattle.tags.specs.Dimmer.{Mapping}
 use Rattle.tags.specs.Kept.{sample_in, mapping_in}
 use Rattle.tags.specs.Limits.{row_size}
 use Rattle.tags.specs.Choice.{refuse}
 use Rattle.tags.specs.ChoiceLaws.{and_left, and_right, or_cases, first-zero_left, first-zero_right, refuse-zero}
-use Rattle.tags.specs.Levels.{levels_fit, levels_written, levels_drawn, levels_counted}
-use Rattle.tags.specs.LevelsLaws.{levels_written-le}
+use Rattle.tags.specs.Levels.{levels_fit, levels_drawn, levels_counted}
 use Rattle.receiver.specs.Modes.{graphic_mode, dimmer_mode}
 use Rattle.receiver.specs.Governing.{Configuration}
 use Rattle.receiver.specs.Slices.{Slices, Lent, slices, lengths}
 use Rattle.receiver.specs.Chunk.{Chunk, chunk, is_drawing, is_dimming, duration, body, start_samples, lit_points_for, points_of, lit_points_of, levels_of}
 use Rattle.receiver.specs.Meters.{added_by}
-use Rattle.receiver.specs.Checks.{most_octets, wrong_count, draw_number, dim_number, content_number}
+use Rattle.receiver.specs.Checks.{wrong_count, draw_number, dim_number, content_number}
 use Rattle.receiver.specs.Effects.{drawn}
-use Rattle.receiver.specs.Record.{mode_in, configuration_of}
+use Rattle.receiver.specs.Record.{mode_in, configuration_of, Config}
 use Rattle.receiver.specs.Steps.{counts_of, no_counts}
-use Rattle.receiver.specs.declared.Config.{Config}
 use Rattle.receiver.specs.declared.draw.Counts.{Counts}
 use Rattle.receiver.proofs.RecordLaws.{configuration_mode, graphic_sample, dimming_mapping}
 
@@ -88,30 +84,9 @@ module _ (k : Chunk) (v : Configuration) (lent : Lent) (passed : content_number 
       not-false _
       (refuse-zero _ 21 (lit≤ tt) (first-zero_left (refuse (not (levels_fit v.mapping (length (body k)))) 21) _ (rw (not-drawing k.type v d, d) at passed)))
 
--- ---- how much a chunk holds
-
 -- no more points are lit than there are
 pub lit-le-points : (k : Chunk) (s : Sample) → lit_points_for k s ≤ points_by s (body k)
 lit-le-points k s = lit_points-behind-le-points s (start_samples k.type) (body k)
-
-module _ (k : Chunk) (h : length k.octets ≤ most_octets) where
-  pub body-few : length (body k) ≤ most_octets
-  body-few = rw length-drop (omega arith)
-
-  pub points-few : (s : Sample) → points_by s (body k) ≤ most_octets
-  points-few s = le_trans (points-le-octets s (body k)) body-few
-
-  pub lit-few : (s : Sample) (b : Bool) → cond b (lit_points_for k s) 0 ≤ most_octets
-  lit-few s true = le_trans (lit-le-points k s) (points-few s)
-  lit-few s false = omega arith
-
-  pub levels-few : (m : Mapping) → levels_counted m (length (body k)) ≤ most_octets
-  unfolding levels_counted
-  levels-few m = go (levels_fit m (length (body k))) refl
-    where
-      go : (b : Bool) → levels_fit m (length (body k)) ≡ b → cond b (levels_written m (length (body k))) 0 ≤ most_octets
-      go true e = le_trans (levels_written-le m (length (body k)) e) body-few
-      go false e = omega arith
 
 -- ---- the writing of an accepted chunk
 

@@ -1,5 +1,6 @@
 -- Laws about a receiver newly started.
-use mathlib.Core.Path.{◌≡◌, refl}
+use mathlib.Core.Path.{◌≡◌, refl, sym, ap, subst, ◌∙◌}
+use mathlib.Core.List.{List, [], ◌∷◌}
 use Prim.Native.Nat.{ℕ, zero, suc}
 use mathlib.Core.Bool.{Bool, true, false, cond}
 use lib.ListN.{length, get_or, replicate, length-replicate}
@@ -10,9 +11,11 @@ use Rattle.receiver.specs.Governing.{closed, meant}
 use Rattle.receiver.specs.Meters.{Sums, sums, over_limit}
 use Rattle.receiver.specs.Effects.{bare_reply}
 use Rattle.receiver.specs.LookBack.{starting_sums}
-use Rattle.receiver.specs.Contract.{outcome, start_number, Started}
-use Rattle.receiver.specs.Record.{record_size, size_place, colours_place, config_at, area_at, channels_of, configuration_of, consistent_at, consistent_up_to, consistent}
-use Rattle.receiver.specs.Steps.{fresh_channels, fresh}
+use Rattle.receiver.specs.Contract.{outcome, start_number, sums_in, Started}
+use Rattle.receiver.specs.Record.{record_in, record_size, size_place, colours_place, config_at, area_at, channels_of, configuration_of, consistent_at, consistent_up_to, consistent}
+use Rattle.receiver.specs.Steps.{meters_by, gathered_by, no_gathered, fresh_channels, fresh}
+use Rattle.receiver.specs.declared.Readings.{Readings}
+use Rattle.receiver.specs.declared.Reply.{Reply}
 use Rattle.receiver.proofs.RecordLaws.{configuration_closed}
 
 get_or-replicate_default {ℓ} : {A : Type ℓ} (n c : ℕ) (a : A) → get_or (replicate n a) c a ≡ a
@@ -65,3 +68,11 @@ started-fresh s =
       gathering = λ a. refl;
       sound = consistent-fresh (starting_sums s) (starting_within s);
     }
+
+-- by its parts: the readings that start sets, the arrays with them, and the reply
+pub started_with : (q first : Readings) (meters gathered channels : List ℕ) (reply : Reply) → sums_in first ≡ starting_sums (sums_in q)
+    → meters ≡ meters_by first → gathered ≡ gathered_by no_gathered → channels ≡ fresh_channels → reply ≡ bare_reply (start_number (sums_in q))
+    → Started (sums_in q) (outcome (record_in channels meters gathered) reply)
+started_with q first meters gathered channels reply f m g c r =
+    let sums_are = m ∙ ap (λ (x : Sums). x.lit_time ∷ x.points ∷ x.lit_points ∷ []) f in
+    subst (Started (sums_in q)) (λ i. outcome (record_in (sym c i) (sym sums_are i) (sym g i)) (sym r i)) (started-fresh (sums_in q))

@@ -1,6 +1,6 @@
 -- Laws about what the record holds of a gathered frame, and about what a message does to it.
-use mathlib.Core.Path.{◌≡◌, refl, sym, ap, ◌∙◌}
-use Prim.Native.Nat.{ℕ, zero, suc, ◌+◌, ◌-◌, ◌≤◌}
+use mathlib.Core.Path.{◌≡◌, refl, ap, ◌∙◌}
+use Prim.Native.Nat.{ℕ, ◌+◌, ◌≤◌}
 use mathlib.Core.Bool.{Bool, true, false, false≢true, cond, not, ◌&&◌, ◌||◌}
 use mathlib.Core.List.{List, [], ◌∷◌, ◌++◌}
 use native.Mathlib.Nat.{add-sub_cancel}
@@ -8,8 +8,8 @@ use native.Mathlib.Omega.{arith}
 use lib.ListN.{length, get_or, set, take, drop, length-append}
 use lib.Seq.{take_at, length-take-le}
 use lib.Dec.{ltb, eqb, lit≤}
-use borrow.Author.Tests.{eqb-true, eqb-false, eq-eqb, ne_eqb, ltb-false, not-true}
-use Rattle.tags.specs.ChoiceLaws.{and_left, and_right, or-false_left, or-false_right, refuse-zero}
+use borrow.Author.Tests.{ne_eqb, ltb-false}
+use Rattle.tags.specs.ChoiceLaws.{or-false_left, or-false_right, refuse-zero}
 use Rattle.tags.specs.Kept.{octets_put}
 use Rattle.receiver.specs.Message.{channel_of, type_of, is_sequel, is_last, closes, data_of}
 use Rattle.receiver.specs.Governing.{Configuration}
@@ -17,9 +17,8 @@ use Rattle.receiver.specs.Chunk.{is_fragment}
 use Rattle.receiver.specs.Gathering.{Gathering, no_gathering, gathers_on, place_in, end_in, so_far, grown}
 use Rattle.receiver.specs.Checks.{most_octets, room_number}
 use Rattle.receiver.specs.Effects.{takes, assembly_after, decides, gathering_after}
-use Rattle.receiver.specs.Record.{gathered_count, gathering_in, configuration_of}
+use Rattle.receiver.specs.Record.{gathered_count, gathering_in}
 use Rattle.receiver.specs.Steps.{no_gathered, gathered_after}
-use Rattle.receiver.specs.declared.Config.{Config}
 use Rattle.receiver.specs.declared.gather.Gathered.{Gathered}
 
 -- ---- four numbers
@@ -42,30 +41,6 @@ four_stored (x ∷ y ∷ z ∷ []) a b c d e = absurd (omega (arith, e))
 four_stored (x ∷ y ∷ z ∷ u ∷ []) a b c d e = refl
 four_stored (x ∷ y ∷ z ∷ u ∷ v ∷ l) a b c d e = absurd (omega (arith, e))
 
--- ---- the channel of the frame
-
--- two tests are the same that hold together
-same_tests : (a b : Bool) → (a ≡ true → b ≡ true) → (b ≡ true → a ≡ true) → a ≡ b
-same_tests true b f g = sym (f refl)
-same_tests false true f g = g refl
-same_tests false false f g = refl
-
--- a state is a channel plus 1
-pub gathers_on-state : (q : Gathered) (c : ℕ) (a : List ℕ) → eqb q.state (c + 1) ≡ gathers_on (gathering_in q a) c
-gathers_on-state q c a =
-    same_tests (eqb q.state (c + 1)) (not (eqb q.state 0) && eqb c (q.state - 1))
-    (λ e.
-    let s : q.state ≡ c + 1 = eqb-true q.state (c + 1) e in
-    rw (ne_eqb q.state 0 (λ z. omega (arith, s, z)), eq-eqb c (q.state - 1) (omega (arith, s))))
-    (λ e.
-    let some = not-true (eqb q.state 0) (and_left (not (eqb q.state 0)) (eqb c (q.state - 1)) e) in
-    let same : c ≡ q.state - 1 = eqb-true c (q.state - 1) (and_right (not (eqb q.state 0)) (eqb c (q.state - 1)) e) in
-    eq-eqb q.state (c + 1) (above q.state (eqb-false q.state 0 some) same))
-  where
-    above : (s : ℕ) → (s ≡ 0 → ⊥) → c ≡ s - 1 → s ≡ c + 1
-    above zero h e = absurd (h refl)
-    above (suc s) h e = omega (arith, e)
-
 -- ---- the room for a fragment
 
 -- check 26 is passed: the octets so far end within the slice, and are not too many
@@ -81,12 +56,6 @@ room-ends m v w n e f =
     go : {t : Bool} (b : Bool) → b ≡ true → (b && t) ≡ false → t ≡ false
     go true p q = q
     go false p q = absurd (false≢true p)
-
--- of what governs the message only the mode counts
-pub room-any : (m : List ℕ) (k : Config) (area other : List ℕ) (w : Gathering) (n : ℕ)
-    → room_number m (configuration_of k area) w n ≡ room_number m (configuration_of k other) w n
-unfolding room_number configuration_of
-room-any m k area other w n = refl
 
 -- ---- a fragment put behind those before it
 

@@ -1,40 +1,29 @@
--- Laws about the header as the code reads it: each field is the message's own.
-use Prim.Native.Nat.{ℕ}
-use mathlib.Core.Path.{◌≡◌, ap}
+-- Laws about checks 2 to 5: 2 and 3 come first, as one.
+use Prim.Native.Nat.{ℕ, zero, suc}
+use mathlib.Core.Path.{◌≡◌, refl, sym}
+use native.Mathlib.Omega.{arith}
+use mathlib.Core.Bool.{not}
 use mathlib.Core.List.{List}
-use Rattle.receiver.specs.Message.{channel_of, type_of, timestamp_of, is_last, routes, closes, mode_of, data_start}
-use Rattle.receiver.specs.Header.{header_of}
-use Rattle.receiver.specs.declared.header.Header.{Header}
+use lib.Dec.{eqb}
+use Rattle.tags.specs.Choice.{refuse, first}
+use Rattle.receiver.specs.Message.{top_bit, type_of}
+use Rattle.receiver.specs.Chunk.{known_type}
+use Rattle.receiver.specs.Checks.{wrong_length, front_number, passes_end, header_number}
+use Rattle.receiver.specs.Section.{section_number}
 
-module _ (h : Header) (m : List ℕ) (e : h ≡ header_of m) where
-  pub header-channel : h.channel.0 ≡ channel_of m
-  unfolding header_of
-  header-channel = ap (λ (a : Header). a.channel.0) e
+-- ---- checks 2 to 5
 
-  pub header-type : h.chunk_type ≡ type_of m
-  unfolding header_of
-  header-type = ap (λ (a : Header). a.chunk_type) e
+first-first : (a b c : ℕ) → first (first a b) c ≡ first a (first b c)
+first-first zero b c = refl
+first-first (suc a) b c = grind arith
 
-  pub header-timestamp : h.timestamp ≡ timestamp_of m
-  unfolding header_of
-  header-timestamp = ap (λ (a : Header). a.timestamp) e
+front-first : (m : List ℕ) (n : ℕ) → first (front_number m) n ≡ first (refuse (wrong_length m) 2) (first (refuse (eqb (top_bit m) 0) 3) n)
+front-first m = first-first (refuse (wrong_length m) 2) (refuse (eqb (top_bit m) 0) 3)
 
-  pub header-last : h.last ≡ is_last m
-  unfolding header_of
-  header-last = ap (λ (a : Header). a.last) e
+pub header_in_turn : (m : List ℕ) → header_number m ≡ first (front_number m) (first (refuse (not (known_type (type_of m))) 4) (refuse (passes_end m) 5))
+unfolding header_number
+header_in_turn m = sym (front-first m _)
 
-  pub header-routing : h.routing ≡ routes m
-  unfolding header_of
-  header-routing = ap (λ (a : Header). a.routing) e
-
-  pub header-close : h.close ≡ closes m
-  unfolding header_of
-  header-close = ap (λ (a : Header). a.close) e
-
-  pub header-mode : h.mode ≡ mode_of m
-  unfolding header_of
-  header-mode = ap (λ (a : Header). a.mode) e
-
-  pub header-start : h.start ≡ data_start m
-  unfolding header_of
-  header-start = ap (λ (a : Header). a.start) e
+pub section_in_turn : (m : List ℕ) → section_number m ≡ first (front_number m) (refuse (passes_end m) 5)
+unfolding section_number
+section_in_turn m = sym (front-first m _)

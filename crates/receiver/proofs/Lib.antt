@@ -1,3 +1,4 @@
+pub mod NumberLaws
 pub mod CheckLaws
 pub mod HeaderLaws
 pub mod PartLaws
@@ -10,10 +11,13 @@ pub mod MeterLaws
 pub mod GatherLaws
 pub mod WholeLaws
 pub mod JudgeLaws
+pub mod WorkLaws
+pub mod DrawLaws
 pub mod AssemblyLaws
 pub mod ChannelLaws
 pub mod SizedLaws
 pub mod RefusalLaws
+pub mod HandledLaws
 pub mod AnswerLaws
 pub mod SetLaws
 pub mod OneByOneLaws
@@ -30,3 +34,5 @@ pub mod History
 pub mod OctetLaws
 pub mod Answers
 pub mod Runs
+pub mod GoverningLaws
+pub mod EarlierLaws

@@ -1,20 +1,17 @@
 -- Laws about the readings of the record.
-use mathlib.Core.Path.{◌≡◌, refl, sym, ◌∙◌}
+use mathlib.Core.Path.{◌≡◌, refl}
 use Prim.Native.Nat.{ℕ, zero, suc, ◌<◌, ◌≤◌}
-use mathlib.Core.Bool.{Bool, true, false, false≢true, cond}
+use mathlib.Core.Bool.{Bool, true, false}
 use mathlib.Core.List.{List}
 use native.Mathlib.Omega.{arith}
-use lib.Dec.{eqb, eqb-suc-zero}
 use borrow.Author.Tests.{lt-ltb}
 use Rattle.tags.specs.ChoiceLaws.{and_right}
-use Rattle.tags.specs.Dictionary.{no_sample}
 use Rattle.tags.specs.Kept.{sample_in, mapping_in, sizes_fit}
 use Rattle.receiver.specs.Modes.{graphic_mode, dimmer_mode, known_mode, channel_count}
 use Rattle.receiver.specs.Governing.{closed, meant}
 use Rattle.receiver.specs.Checks.{held_elsewhere}
-use Rattle.receiver.specs.Record.{open_state, mode_in, config_at, area_at, channels_of, configuration_of, consistent_at}
+use Rattle.receiver.specs.Record.{mode_in, config_at, area_at, channels_of, configuration_of, consistent_at, Config}
 use Rattle.receiver.specs.Steps.{held_states, closed_by}
-use Rattle.receiver.specs.declared.Config.{Config}
 use Rattle.receiver.specs.declared.Receiver.{Receiver}
 
 -- ---- what a configuration means, by its state
@@ -25,10 +22,6 @@ module _ (k : Config) (area : List ℕ) where
   unfolding configuration_of
   configuration_mode = refl
 
-  pub configuration_open : (configuration_of k area).is_open ≡ open_state k.state
-  unfolding configuration_of
-  configuration_open = refl
-
   pub graphic_sample : graphic_mode (mode_in k.state) ≡ true → (configuration_of k area).sample ≡ sample_in k.size k.colours area
   unfolding configuration_of
   graphic_sample g = rw g
@@ -36,20 +29,6 @@ module _ (k : Config) (area : List ℕ) where
   pub dimming_mapping : dimmer_mode (mode_in k.state) ≡ true → (configuration_of k area).mapping ≡ mapping_in k.size area
   unfolding configuration_of
   dimming_mapping g = rw g
-
-  -- in a mode other than 0 the channel is open, and its match bits count
-  pub open_match : eqb (mode_in k.state) 0 ≡ false → (configuration_of k area).match ≡ k.match_bits
-  unfolding configuration_of
-  open_match e = go k.state refl
-    where
-      go : (s : ℕ) → k.state ≡ s → cond (open_state k.state) k.match_bits 0 ≡ k.match_bits
-      go zero q = absurd (false≢true (sym e ∙ rw q))
-      go (suc s) q = rw (q, eqb-suc-zero s)
-
-  -- no dictionary governs a channel that is closed or open in another mode
-  pub other_sample : graphic_mode (mode_in k.state) ≡ false → (configuration_of k area).sample ≡ no_sample
-  unfolding configuration_of
-  other_sample g = rw g
 
   -- what a channel held before it is closed no longer governs
   pub configuration_closed : k.state ≡ 0 → configuration_of k area ≡ meant closed

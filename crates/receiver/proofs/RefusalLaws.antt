@@ -1,44 +1,28 @@
--- Laws about what a message's own checks let pass, and about a refusal that changes no record.
-use mathlib.Core.Path.{◌≡◌, refl, sym, ◌∙◌}
-use Prim.Native.Nat.{ℕ}
-use mathlib.Core.Bool.{Bool, true, false, cond, and-false, ◌&&◌, ◌||◌}
+-- Laws about a refusal that changes no record: by check 1, and by 2 to 14.
+use mathlib.Core.Path.{◌≡◌, refl, ◌∙◌}
+use Prim.Native.Nat.{ℕ, ◌≤◌}
+use native.Mathlib.Omega.{arith}
+use mathlib.Core.Bool.{Bool, true, false, cond, not, and-false, ◌&&◌, ◌||◌}
 use mathlib.Core.List.{List}
-use lib.Dec.{eqb}
-use borrow.Author.Tests.{eqb-false}
-use Rattle.tags.specs.ChoiceLaws.{or-false_left, or-false_right}
-use Rattle.receiver.specs.Message.{type_of, is_last}
+use lib.Dec.{eqb, lit≤}
+use borrow.Author.Tests.{ne_eqb, lt-leb}
+use Rattle.tags.specs.ChoiceLaws.{or-false_left, or-false_right, first_holds}
+use Rattle.tags.specs.Dictionary.{dictionary_number}
+use Rattle.tags.specs.Dimmer.{dimmer_number}
+use Rattle.tags.specs.RefusalLaws.{dictionary_number-holds, dimmer_number-holds}
+use Rattle.tags.specs.Choice.{refuse, first}
+use Rattle.receiver.specs.Message.{top_bit, type_of, is_last, routes, service_of, mode_of, tags_of}
+use Rattle.receiver.specs.Modes.{graphic_mode, dimmer_mode, known_mode, service_fits}
 use Rattle.receiver.specs.Governing.{Configuration}
 use Rattle.receiver.specs.Slices.{Slices}
-use Rattle.receiver.specs.Chunk.{is_fragment}
-use Rattle.receiver.specs.Checks.{governs, own_number}
+use Rattle.receiver.specs.Chunk.{known_type, is_fragment}
+use Rattle.receiver.specs.Checks.{wrong_length, passes_end, header_number, tags_number, routing_number, route_number, governs, in_order, number_of}
 use Rattle.receiver.specs.Effects.{bare_reply, reply_of, of_whole, takes, assembly_after, slices_after, sums_after, governing_after, gathering_after}
-use Rattle.receiver.specs.Record.{standing_of, channels_of, consistent}
-use Rattle.receiver.specs.Contract.{outcome, changes, AnsweredWith, Answered}
-use Rattle.receiver.specs.Steps.{Governed, own_number_of}
+use Rattle.receiver.specs.Record.{channels_of, consistent}
+use Rattle.receiver.specs.Contract.{outcome, message_number, changes, AnsweredWith, Answered}
 use Rattle.receiver.specs.declared.Receiver.{Receiver}
-use Rattle.receiver.specs.declared.route.Found.{Found}
-use Rattle.receiver.proofs.CheckLaws.{OwnPassed, own-passed}
-
--- ---- what was passed
-
--- a number other than 1 was given to a consistent record
-own-good : (r : Receiver) (m : List ℕ) (n : ℕ) (a : List ℕ) (own : ℕ) → own_number_of r m n a ≡ own → eqb own 1 ≡ false → consistent r ≡ true
-own-good r m n a own e f = go (consistent r) refl (λ q. eqb-false own 1 f (sym e ∙ q))
-  where
-    go : (b : Bool) → consistent r ≡ b → (cond b (own_number m n (standing_of r a)) 1 ≡ 1 → ⊥) → consistent r ≡ true
-    go true p h = p
-    go false p h = absurd (h refl)
-
-module _ (r : Receiver) (m : List ℕ) (n : ℕ) (a : List ℕ) (passed : own_number_of r m n a ≡ 0) where
-  pub passed-good : consistent r ≡ true
-  passed-good = own-good r m n a 0 passed refl
-
-  pub passed-own : OwnPassed m n (standing_of r a)
-  passed-own = own-passed m n (standing_of r a) (let e = passed in rw passed-good at e)
-
-  -- something was found to govern it
-  pub passed-found : (f : Found) (area : List ℕ) → Governed r m f area → f.number ≡ 0
-  passed-found f area governed = governed.number ∙ rw (passed-good, passed-own.header, passed-own.route)
+use Rattle.receiver.specs.declared.Reply.{Reply}
+use Rattle.receiver.proofs.CheckLaws.{first_assoc}
 
 -- ---- a refusal that changes no record
 
@@ -67,6 +51,43 @@ unchanged_by m n e =
 pub takes_none : (m : List ℕ) (n : ℕ) (v : Configuration) → eqb n 0 ≡ false → (is_last m && of_whole n) ≡ false → takes m n v ≡ false
 takes_none m n v e h = rw (e, h, and-false (is_fragment (type_of m) v))
 
+-- ---- the numbers of checks 2 to 14
+
+header-few : (m : List ℕ) → header_number m ≤ 14
+unfolding header_number
+header-few m = go (wrong_length m) (eqb (top_bit m) 0) (not (known_type (type_of m))) (passes_end m)
+  where
+    go : (a b c d : Bool) → first (refuse a 2) (first (refuse b 3) (first (refuse c 4) (refuse d 5))) ≤ 14
+    go true b c d = omega arith
+    go false true c d = omega arith
+    go false false true d = omega arith
+    go false false false true = omega arith
+    go false false false false = omega arith
+
+tags-few : (mode : ℕ) (tags : List ℕ) → tags_number mode tags ≤ 14
+unfolding tags_number
+tags-few mode tags = go (graphic_mode mode) (dimmer_mode mode)
+  where
+    few : ℕ → Type 0
+    few n = n ≤ 14
+
+    go : (a b : Bool) → cond a (dictionary_number mode tags) (cond b (dimmer_number tags) 0) ≤ 14
+    go true b = dictionary_number-holds (λ (n : ℕ). n ≤ 14) (lit≤ tt) (lit≤ tt) (lit≤ tt) (lit≤ tt) (lit≤ tt) (lit≤ tt) mode tags
+    go false true = dimmer_number-holds (λ (n : ℕ). n ≤ 14) (lit≤ tt) (lit≤ tt) (lit≤ tt) tags
+    go false false = omega arith
+
+route-few : (m : List ℕ) → route_number m ≤ 14
+unfolding route_number routing_number
+route-few m = go (routes m) (not (known_mode (mode_of m))) (not (service_fits (mode_of m) (service_of m)))
+  where
+    go : (a b c : Bool) → cond a (first (refuse b 6) (first (refuse c 7) (tags_number (mode_of m) (tags_of m)))) 0 ≤ 14
+    go true true c = omega arith
+    go true false true = omega arith
+    go true false false = tags-few (mode_of m) (tags_of m)
+    go false b c = omega arith
+
+-- ---- the answer
+
 module _ (r : Receiver) (m : List ℕ) (s : Slices) where
   answered-refused : (n : ℕ) → changes m n ≡ false → AnsweredWith n r m s (outcome r (bare_reply n)) s
   unfolding reply_of slices_after assembly_after sums_after governing_after gathering_after
@@ -84,5 +105,20 @@ module _ (r : Receiver) (m : List ℕ) (s : Slices) where
       }
 
   -- a record that check 1 refuses
-  pub answered-inconsistent : consistent r ≡ false → Answered r m s (outcome r (bare_reply 1)) s
-  answered-inconsistent e = rw e (answered-refused 1 (and-false (is_last m)))
+  pub answered_inconsistent : (reply : Reply) → consistent r ≡ false → reply ≡ bare_reply 1 → Answered r m s (outcome r reply) s
+  answered_inconsistent reply e q = rw (e, q) (answered-refused 1 (and-false (is_last m)))
+
+  -- or one of 2 to 14 the message
+  module _ (good : consistent r ≡ true) (n : ℕ) (e : eqb n 0 ≡ false) (early : n ≡ first (header_number m) (route_number m)) where
+    number-early : message_number r m s ≡ n
+    unfolding number_of in_order
+    number-early = rw good (first_assoc (header_number m) (route_number m) _ ∙ rw (← early, e))
+
+    unchanged-early : changes m n ≡ false
+    unchanged-early =
+        let few : n ≤ 14 = rw early (first_holds (λ (x : ℕ). x ≤ 14) (header_number m) (route_number m) (header-few m) (route-few m)) in
+        rw
+        (e, ne_eqb n 19 (λ q. omega (arith, few, q)), ne_eqb n 25 (λ q. omega (arith, few, q)), ne_eqb n 26 (λ q. omega (arith, few, q)), lt-leb 20 n (omega (arith, few)), and-false (is_last m))
+
+    pub answered-early : Answered r m s (outcome r (bare_reply n)) s
+    answered-early = rw number-early (answered-refused n unchanged-early)

@@ -1,6 +1,6 @@
 -- Laws about the messages of a set (document 02, C-14): what a message of type 0x00 is answered with does not depend on any slice, nor on
 -- what is gathered; and what it leaves shows alike with whatever assembly slice is lent later.
-use mathlib.Core.Path.{◌≡◌, refl, sym, ap, ◌∙◌, fun_ext}
+use mathlib.Core.Path.{◌≡◌, refl, sym, ap, subst, subst₂, ◌∙◌, fun_ext}
 use Prim.Native.Nat.{ℕ, ◌+◌}
 use mathlib.Core.Bool.{Bool, true, false, false≢true, cond, not, ◌&&◌, ◌||◌}
 use mathlib.Core.List.{List, [], ◌∷◌}
@@ -8,7 +8,8 @@ use native.Mathlib.Nat.{le_refl}
 use native.Mathlib.Omega.{arith}
 use lib.ListN.{length, take}
 use lib.Dec.{ltb, eqb, lit≤}
-use borrow.Author.Tests.{not-false, ltb-false, le-ltb, eqb-true, eq-eqb}
+use borrow.Author.Tests.{not-false, ltb-false, le-ltb, eqb-true, eq-eqb, ne_eqb}
+use Rattle.std.specs.Prelude.{Result, Ok, Err, IfOk}
 use Rattle.tags.specs.Choice.{refuse, first}
 use Rattle.tags.specs.ChoiceLaws.{or-false_left, or-false_right, first-zero_right, refuse-zero}
 use Rattle.receiver.specs.Message.{total_size, top_bit, channel_of, type_of}
@@ -17,14 +18,17 @@ use Rattle.receiver.specs.Slices.{Slices, Lent, lengths}
 use Rattle.receiver.specs.Chunk.{chunk_of, void_type, points_of, lit_points_of}
 use Rattle.receiver.specs.Gathering.{Gathering, no_gathering, whole_of}
 use Rattle.receiver.specs.Meters.{Sums, plus, over_limit, added_by}
-use Rattle.receiver.specs.Checks.{least_message, largest_message, wrong_length, header_number, route_number, holder_number, closed_number, governs, sequel_number, match_number, room_number, content_number, whole_number, Standing, governed_in, first_number_of, in_order, number_of, own_number}
+use Rattle.receiver.specs.Checks.{least_message, largest_message, wrong_length, front_number, header_number, route_number, holder_number, closed_number, governs, sequel_number, match_number, room_number, content_number, whole_number, Standing, governed_in, first_number_of, in_order, number_of, own_number}
 use Rattle.receiver.specs.Effects.{reply_of, sums_after, governing_after, gathering_after, decides}
 use Rattle.receiver.specs.Stream.{is_cut, entry_of, left_in, parts_in}
 use Rattle.receiver.specs.StreamLaws.{left_cut}
 use Rattle.receiver.specs.Sets.{none_lent, member_number, standing_after, replied_from, replied_to}
-use Rattle.receiver.specs.Record.{gathered_in, gathering_in, gathering_of, channels_of, sums_of, standing_of, consistent}
-use Rattle.receiver.specs.Contract.{message_number, Answered}
+use Rattle.receiver.specs.Record.{record_in, gathered_in, gathering_in, gathering_of, channels_of, sums_of, standing_of, consistent}
+use Rattle.receiver.specs.Contract.{outcome, message_number, Answered}
 use Rattle.receiver.specs.Steps.{foreign_number, MemberOf}
+use Rattle.receiver.specs.Refusal.{refusal_number, number_in}
+use Rattle.receiver.specs.Views.{reply_in}
+use Rattle.receiver.specs.declared.refusal.Refusal.{Refusal}
 use Rattle.receiver.specs.declared.Receiver.{Receiver}
 use Rattle.receiver.specs.declared.Outcome.{Outcome}
 use Rattle.receiver.specs.declared.Reply.{Reply}
@@ -32,6 +36,7 @@ use Rattle.receiver.specs.declared.gather.Gathered.{Gathered}
 use Rattle.receiver.proofs.CheckLaws.{number_of-own, first-none, plus-zero}
 use Rattle.receiver.proofs.MeterLaws.{meter-idle}
 use Rattle.receiver.proofs.JudgeLaws.{consistent-limit}
+use Rattle.receiver.proofs.NumberLaws.{refusal-some}
 use Rattle.receiver.proofs.SizedLaws.{consistent-sized, three_meters}
 
 -- ---- the number of a message of a set
@@ -218,6 +223,9 @@ module _ (r : Receiver) (good : consistent r ≡ true) (m : List ℕ) (t : type_
 
 -- ---- a message of a set offered to a consistent record
 
+pub refusal-first : (e : Refusal) (n : ℕ) → first (refusal_number e) n ≡ refusal_number e
+refusal-first e n = rw (refusal-some e)
+
 -- one of another type leaves the record alone
 pub member_refused : (r : Receiver) → consistent r ≡ true → (m : List ℕ) → void_type (type_of m) ≡ false → MemberOf r m (foreign_number m) r
 member_refused r good m e =
@@ -227,6 +235,19 @@ member_refused r good m e =
       sound = good;
       meters = refl;
     }
+
+-- which checks 2 and 3 refuse, or 4
+pub member_foreign_by : (r : Receiver) → consistent r ≡ true → (m : List ℕ) → (type_of m ≡ 0 → ⊥) → (front n : ℕ) → front ≡ front_number m
+    → n ≡ first front 4 → MemberOf r m n r
+member_foreign_by r good m other front n is number =
+    subst (λ (n : ℕ). MemberOf r m n r)
+    (go (wrong_length m) (eqb (top_bit m) 0) ∙ sym (number ∙ ap (λ (k : ℕ). first k 4) is))
+    (member_refused r good m (ne_eqb (type_of m) 0 other))
+  where
+    go : (x y : Bool) → first (refuse x 2) (first (refuse y 3) 4) ≡ first (first (refuse x 2) (refuse y 3)) 4
+    go true y = refl
+    go false true = refl
+    go false false = refl
 
 -- one of type 0x00 is answered as by itself
 pub member_answered : (r : Receiver) → consistent r ≡ true → (m : List ℕ) → type_of m ≡ 0 → (s : Slices) (o : Outcome) (s₁ : Slices)
@@ -244,6 +265,18 @@ member_answered r good m t s o s₁ answered =
           ∙ ap (λ (x : Sums). x.lit_time ∷ x.points ∷ x.lit_points ∷ []) same
           ∙ three_meters r.meters (consistent-sized r good).meters;
     }
+
+-- by what answered it: its number, and the record with the meters that it had
+pub member_by : (r : Receiver) (m : List ℕ) (s s₁ : Slices) (channels meters gathered : List ℕ) (answer : Result Reply Refusal)
+    → consistent r ≡ true → type_of m ≡ 0 → Answered r m s (outcome (record_in channels meters gathered) (reply_in answer)) s₁
+    → IfOk answer (λ reply. reply.number ≡ 0) → (n : ℕ) → n ≡ number_in answer → MemberOf r m n (record_in channels r.meters gathered)
+member_by r m s s₁ channels meters gathered answer good t answered accepted n is =
+    let member = member_answered r good m t s _ s₁ answered in
+    subst₂ (λ (n : ℕ) (l : List ℕ). MemberOf r m n (record_in channels l gathered)) (number answer accepted ∙ sym is) member.meters member
+  where
+    number : (answer : Result Reply Refusal) → IfOk answer (λ reply. reply.number ≡ 0) → (reply_in answer).number ≡ number_in answer
+    number (Ok reply) zero = zero
+    number (Err e) zero = refl
 
 -- ---- the reply to a set depends neither on a slice nor on what is gathered
 

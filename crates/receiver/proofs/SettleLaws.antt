@@ -16,9 +16,8 @@ use Rattle.tags.specs.Kept.{area_size}
 use Rattle.tags.specs.KeptLaws.{length-put, put_before, put_after, octets_put_lem}
 use Rattle.receiver.specs.Modes.{channel_count}
 use Rattle.receiver.specs.Governing.{Configuration}
-use Rattle.receiver.specs.Record.{record_size, match_place, size_place, colours_place, area_place, config_in, area_in, channels_of, configuration_of, consistent_at, consistent_up_to}
+use Rattle.receiver.specs.Record.{record_size, match_place, size_place, colours_place, area_place, config_in, area_in, channels_of, configuration_of, consistent_at, consistent_up_to, Config}
 use Rattle.receiver.specs.Steps.{stored_in, closed_by, settled_in}
-use Rattle.receiver.specs.declared.Config.{Config}
 use Rattle.receiver.specs.declared.Receiver.{Receiver}
 use Rattle.receiver.proofs.PartLaws.{part_same}
 use Rattle.receiver.proofs.RecordLaws.{channels_of-below}

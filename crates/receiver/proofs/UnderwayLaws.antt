@@ -1,78 +1,90 @@
 -- Laws about a set that is being offered: some messages were accepted, and the reply and what is left are those of the rest, offered to what
 -- the last of these left.
 use mathlib.Core.Path.{◌≡◌, refl, sym, ap, ◌∙◌}
-use Prim.Native.Nat.{ℕ, ◌+◌, ◌<◌, ◌≤◌}
+use Prim.Native.Nat.{ℕ, zero, suc, ◌+◌, ◌<◌, ◌≤◌}
+use native.Mathlib.Nat.{le_refl}
 use native.Mathlib.Omega.{arith}
-use mathlib.Core.Bool.{true, false}
+use mathlib.Core.Bool.{Bool, true, false, cond}
 use mathlib.Core.List.{List, [], ◌∷◌}
-use lib.ListN.{length, take, drop, length-drop, drop_of_length-le}
-use lib.Seq.{drop-drop}
+use lib.ListN.{length, take, drop, length-drop}
 use lib.Dec.{eqb}
-use Rattle.receiver.specs.Stream.{parts_in, part_of}
+use Rattle.std.specs.Prelude.{Option, Some, None, IfSome}
+use Rattle.std.specs.Option.{unwrap_or}
+use Rattle.std.proofs.Common.{ne_eqb}
+use Rattle.std.proofs.lemmas.Bool.{eqb-false}
+use Rattle.receiver.specs.Message.{total_size}
+use Rattle.receiver.specs.Stream.{is_cut, entry_of, parts_in, part_of}
 use Rattle.receiver.specs.StreamLaws.{parts_none, parts_next}
-use Rattle.receiver.specs.Checks.{Standing}
-use Rattle.receiver.specs.Sets.{member_number, standing_after, set_reply, replied_from, replied_to, standing_behind}
+use Rattle.receiver.specs.Sets.{replied_from, standing_behind}
 use Rattle.receiver.specs.Record.{standing_of, consistent}
+use Rattle.receiver.specs.Steps.{MemberOf}
 use Rattle.receiver.specs.declared.Receiver.{Receiver}
 
--- Record r₀ was offered the set; the octets before `at` were its first messages, `place` of them, all accepted, and r is what they left.
-pub record Underway (r₀ : Receiver) (octets : List ℕ) (place at : ℕ) (r : Receiver) : Type 0 where
-  pub reply : (a : List ℕ) → replied_to octets (standing_of r₀ a) ≡ replied_from place (standing_of r a) (parts_in (drop at octets))
-  pub standing : (a : List ℕ) → standing_behind (standing_of r₀ a) (parts_in octets) ≡ standing_behind (standing_of r a) (parts_in (drop at octets))
+-- ---- the parts of a set
+
+pub parts_empty : (octets : List ℕ) → length octets ≡ 0 → parts_in octets ≡ []
+parts_empty [] e = parts_none
+parts_empty (x ∷ l) e = absurd (omega (arith, e))
+
+-- the one at the front, by the size of the message there
+pub part_next : (octets : List ℕ) (size : ℕ) (front : Option ℕ) → front ≡ cond (is_cut octets) None (Some (total_size octets))
+    → IfSome front (λ n. (0 < n) × (n ≤ length octets)) → size ≡ unwrap_or front (length octets) → 0 < length octets
+    → parts_in octets ≡ take size octets ∷ parts_in (drop size octets)
+unfolding entry_of
+part_next octets size front is bounds s some =
+    parts_next octets some ∙ ap (λ (n : ℕ). take n octets ∷ parts_in (drop n octets)) (sym (s ∙ go (is_cut octets) front is bounds))
+  where
+    go : (b : Bool) (front : Option ℕ) → front ≡ cond b None (Some (total_size octets)) → IfSome front (λ n. (0 < n) × (n ≤ length octets))
+        → unwrap_or front (length octets) ≡ cond (eqb (cond b 0 (total_size octets)) 0) (length octets) (cond b 0 (total_size octets))
+    go true front e bounds = rw e
+    go false front e bounds = let some = (rw e at bounds).0 in rw (e, ne_eqb (total_size octets) 0 (omega (arith, some)))
+
+-- there are no more of them than octets
+pub parts_count : (n : ℕ) (octets : List ℕ) → length octets ≤ n → length (parts_in octets) ≤ length octets
+parts_count n [] h = rw parts_none (omega arith)
+parts_count zero (x ∷ l) h = absurd (omega (arith, h))
+parts_count (suc n) (x ∷ l) h =
+    let some : 0 < part_of (x ∷ l) = go (eqb (entry_of (x ∷ l)) 0) refl in
+    let less : length (drop (part_of (x ∷ l)) (x ∷ l)) ≤ n = rw length-drop (omega (arith, some, h)) in
+    let later = rw length-drop at (parts_count n (drop (part_of (x ∷ l)) (x ∷ l)) less) in
+    let next = ap length (parts_next (x ∷ l) (omega arith)) in
+    omega (arith, some, later, next)
+  where
+    go : (b : Bool) → eqb (entry_of (x ∷ l)) 0 ≡ b → 0 < cond b (length (x ∷ l)) (entry_of (x ∷ l))
+    go true e = omega arith
+    go false e = let some = eqb-false (entry_of (x ∷ l)) 0 e in omega (arith, some)
+
+-- ---- the messages in turn
+
+-- Record r₀, which check 1 passes, was offered messages `all`: those before `rest` were accepted, `place` of them, and r is what they left.
+pub record Underway (r₀ : Receiver) (all : List (List ℕ)) (place : ℕ) (rest : List (List ℕ)) (r : Receiver) : Type 0 where
+  pub first : consistent r₀ ≡ true
+  pub reply : (a : List ℕ) → replied_from 0 (standing_of r₀ a) all ≡ replied_from place (standing_of r a) rest
+  pub standing : (a : List ℕ) → standing_behind (standing_of r₀ a) all ≡ standing_behind (standing_of r a) rest
   pub sound : consistent r ≡ true
-  pub within : at ≤ length octets
-  pub counted : place ≤ at
+  pub counted : place + length rest ≡ length all
 
-pub underway_start : (r : Receiver) (octets : List ℕ) → consistent r ≡ true → Underway r octets 0 0 r
-underway_start r octets good =
-    record { reply = λ a. refl; standing = λ a. refl; sound = good; within = omega arith; counted = omega arith }
+-- with the next message accepted, it goes on
+pub underway_next : {r₀ r r₁ : Receiver} {all left rest : List (List ℕ)} {place : ℕ} {m : List ℕ}
+    → Underway r₀ all place left r → left ≡ m ∷ rest → MemberOf r m 0 r₁ → Underway r₀ all (place + 1) rest r₁
+unfolding replied_from standing_behind
+underway_next {r} {place = place} u next member =
+    record {
+      first = u.first;
+      reply = λ a.
+          u.reply a
+          ∙ ap (replied_from place (standing_of r a)) next
+          ∙ rw (← member.number a, ← member.standing refl a);
+      standing = λ a. u.standing a ∙ ap (standing_behind (standing_of r a)) next ∙ rw (← member.standing refl a);
+      sound = member.sound;
+      counted = let c = u.counted in let n = ap length next in omega (arith, c, n);
+    }
 
-module _ (r₀ : Receiver) (octets : List ℕ) (place at : ℕ) (r : Receiver) (underway : Underway r₀ octets place at r) where
-  abbrev rest : List ℕ
-  rest = drop at octets
-
-  -- after the last message
-  module _ (end : length octets ≤ at) where
-    none_left : parts_in rest ≡ []
-    none_left = rw (drop_of_length-le octets end) parts_none
-
-    pub underway_replied : (a : List ℕ) → replied_to octets (standing_of r₀ a) ≡ set_reply place 0
-    unfolding replied_from
-    underway_replied a = underway.reply a ∙ ap (replied_from place (standing_of r a)) none_left
-
-    pub underway_left : (a : List ℕ) → standing_of r a ≡ standing_behind (standing_of r₀ a) (parts_in octets)
-    unfolding standing_behind
-    underway_left a = sym (underway.standing a ∙ ap (standing_behind (standing_of r a)) none_left)
-
-  -- with the next message, of so many octets
-  module _ (more : at < length octets) (size : ℕ) (is : size ≡ part_of rest) (some : 0 < size) (fits : at + size ≤ length octets)
-      (n : ℕ) (number : (a : List ℕ) → n ≡ member_number (take size rest) (standing_of r a)) where
-    next-part : parts_in rest ≡ take size rest ∷ parts_in (drop (at + size) octets)
-    next-part =
-        parts_next rest (rw length-drop (omega (arith, more)))
-        ∙ (λ i. take (sym is i) rest ∷ parts_in (drop (sym is i) rest))
-        ∙ ap (λ (l : List ℕ). take size rest ∷ parts_in l) (drop-drop size at octets)
-
-    -- refused, it ends the set
-    pub underway_refused : eqb n 0 ≡ false → (a : List ℕ) → replied_to octets (standing_of r₀ a) ≡ set_reply place n
-    unfolding replied_from
-    underway_refused e a = underway.reply a ∙ ap (replied_from place (standing_of r a)) next-part ∙ rw (← number a, e)
-
-    -- accepted, it goes on
-    pub underway_next : n ≡ 0 → (r₁ : Receiver) → ((a : List ℕ) → standing_of r₁ a ≡ standing_after (take size rest) (standing_of r a))
-        → consistent r₁ ≡ true → Underway r₀ octets (place + 1) (at + size) r₁
-    unfolding replied_from standing_behind
-    underway_next e r₁ after good =
-        record {
-          reply = λ a.
-              underway.reply a
-              ∙ ap (replied_from place (standing_of r a)) next-part
-              ∙ rw (← number a, e) (ap (λ (b : Standing). replied_from (place + 1) b (parts_in (drop (at + size) octets))) (sym (after a)));
-          standing = λ a.
-              underway.standing a
-              ∙ ap (standing_behind (standing_of r a)) next-part
-              ∙ ap (λ (b : Standing). standing_behind b (parts_in (drop (at + size) octets))) (sym (after a));
-          sound = good;
-          within = fits;
-          counted = let c = underway.counted in omega (arith, c, some);
-        }
+-- there is room to count it
+pub underway_counted : (octets : List ℕ) {r₀ r : Receiver} {left rest : List (List ℕ)} {place : ℕ} {m : List ℕ}
+    → Underway r₀ (parts_in octets) place left r → left ≡ m ∷ rest → place < length octets
+underway_counted octets u next =
+    let few = parts_count (length octets) octets (le_refl (length octets)) in
+    let c = u.counted in
+    let n = ap length next in
+    omega (arith, few, c, n)

@@ -34,6 +34,10 @@ wrong_length m =
 abbrev pub passes_end : List ℕ → Bool
 passes_end m = ltb (length m) (data_start m)
 
+-- 2 and 3
+abbrev pub front_number : List ℕ → ℕ
+front_number m = first (refuse (wrong_length m) 2) (refuse (eqb (top_bit m) 0) 3)
+
 unfoldable pub header_number : List ℕ → ℕ
 header_number m =
     first (refuse (wrong_length m) 2)

@@ -13,10 +13,13 @@ pub mod Sets
 pub mod LookBack
 pub mod Record
 pub mod Contract
+pub mod Refusal
+pub mod Kinds
 pub mod Section
 pub mod StreamLaws
-pub mod Header
 pub mod Steps
+pub mod Views
+pub mod Works
 pub mod Bench
 pub mod PinMessages
 pub mod Pins

@@ -10,7 +10,6 @@ use Rattle.receiver.specs.Governing.{Configuration, closed, meant}
 use Rattle.receiver.specs.Gathering.{Gathering}
 use Rattle.receiver.specs.Meters.{Sums, sums, over_limit}
 use Rattle.receiver.specs.Checks.{Standing}
-use Rattle.receiver.specs.declared.Config.{Config}
 use Rattle.receiver.specs.declared.Receiver.{Receiver}
 use Rattle.receiver.specs.declared.gather.Gathered.{Gathered}
 
@@ -37,6 +36,14 @@ record_size = 6_528
 
 abbrev pub meter_count : ℕ
 meter_count = 3
+
+-- What the record holds of one channel besides its area: state 0 is closed, and a mode plus 1 is open in that mode; the sizes are the tag
+-- layer's.
+pub record Config : Type 0 where
+  pub state : ℕ
+  pub match_bits : ℕ
+  pub size : ℕ
+  pub colours : ℕ
 
 -- what octets of a record hold of channel c: its state, match bits and sizes, and its area, which the tag layer reads
 abbrev pub config_in : List ℕ → ℕ → Config

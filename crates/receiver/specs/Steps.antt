@@ -2,25 +2,20 @@
 use Rattle.std.specs.Prelude.{ℕ, zero, suc, ◌+◌, ◌≡◌, Bool, true, false, cond, not, ◌&&◌, ◌||◌, List, [], ◌∷◌, get_or, set, replicate, eqb}
 use Rattle.tags.specs.Choice.{refuse, first}
 use Rattle.tags.specs.Kept.{octets_put}
-use Rattle.receiver.specs.Message.{top_bit, channel_of, type_of, is_last, closes, data_of}
+use Rattle.receiver.specs.Message.{top_bit, channel_of, type_of, is_last, closes}
 use Rattle.receiver.specs.Governing.{Configuration, routed_to, meant}
 use Rattle.receiver.specs.Slices.{Slices, lengths}
 use Rattle.receiver.specs.Chunk.{Chunk, chunk, chunk_of, is_fragment, points_of, lit_points_of, levels_of}
-use Rattle.receiver.specs.Gathering.{Gathering, place_in, end_in, grown, completes}
+use Rattle.receiver.specs.Gathering.{end_in, grown, completes, whole_of}
 use Rattle.receiver.specs.Meters.{Sums, added_by}
-use Rattle.receiver.specs.Checks.{wrong_length, header_number, routing_number, route_number, governs, own_number, whole_number}
-use Rattle.receiver.specs.Effects.{drawn, takes, drops}
-use Rattle.receiver.specs.Stream.{parts_in}
-use Rattle.receiver.specs.Sets.{member_number, standing_after, replied_to, standing_behind}
-use Rattle.receiver.specs.Record.{record_in, match_place, size_place, colours_place, area_place, record_size, open_state, mode_in, configuration_of, channels_of, gathering_in, standing_of, consistent_at, consistent}
-use Rattle.receiver.specs.declared.Config.{Config}
+use Rattle.receiver.specs.Checks.{wrong_length, routing_number, governs, number_of, whole_number}
+use Rattle.receiver.specs.Effects.{drawn, slices_after, takes, drops}
+use Rattle.receiver.specs.Sets.{member_number, standing_after}
+use Rattle.receiver.specs.Record.{record_in, match_place, size_place, colours_place, area_place, record_size, open_state, mode_in, configuration_of, channels_of, gathering_in, gathering_of, standing_of, consistent_at, consistent, Config}
 use Rattle.receiver.specs.declared.Receiver.{Receiver}
 use Rattle.receiver.specs.declared.Readings.{Readings}
-use Rattle.receiver.specs.declared.route.Found.{Found}
 use Rattle.receiver.specs.declared.gather.Gathered.{Gathered}
 use Rattle.receiver.specs.declared.draw.Counts.{Counts}
-use Rattle.receiver.specs.declared.draw.Done.{Done}
-use Rattle.receiver.specs.declared.SetReply.{SetReply}
 
 -- ---- the meters as an array
 
@@ -46,6 +41,11 @@ fresh s = record_in fresh_channels (s.lit_time ∷ s.points ∷ s.lit_points ∷
 
 -- ---- what governs a message
 
+-- a number, and where it is 0 what governs
+pub record Found : Type 0 where
+  pub number : ℕ
+  pub config : Config
+
 -- Routing: the number of checks 6 to 14, and where it is 0 a sound configuration that with its area means what the routing brings
 pub record RoutedTo (mode service match : ℕ) (tags : List ℕ) (f : Found) (area : List ℕ) : Type 0 where
   pub number : f.number ≡ routing_number mode service tags
@@ -59,44 +59,22 @@ held_states channels mode c (suc n) =
     held_states channels mode c n
     || not (eqb n c) && (open_state (get_or channels n 0) && eqb (mode_in (get_or channels n 0)) mode)
 
--- the record that a step is shown: its octets, and the meters and what is gathered by value
-abbrev pub shown_by : List ℕ → Readings → Gathered → Receiver
-shown_by channels q gathered = record_in channels (meters_by q) (gathered_by gathered)
-
--- checks 1 to 14
-abbrev pub governing_number : Receiver → List ℕ → ℕ
-governing_number r m = cond (consistent r) (first (header_number m) (route_number m)) 1
-
--- What governs the message: the number of checks 1 to 14, and where it is 0 the configuration that governs, with its area
-pub record Governed (r : Receiver) (m : List ℕ) (f : Found) (area : List ℕ) : Type 0 where
-  pub number : f.number ≡ governing_number r m
-  pub config : f.number ≡ 0 → configuration_of f.config area ≡ governs m (channels_of r)
-  pub sound : f.number ≡ 0 → consistent_at f.config ≡ true
-
--- ---- checks 1 to 19 and 24 to 26
-
--- the number of the message itself, with a slice of so many octets lent, which are the list's
-abbrev pub own_number_of : Receiver → List ℕ → ℕ → List ℕ → ℕ
-own_number_of r m n assembly = cond (consistent r) (own_number m n (standing_of r assembly)) 1
-
 -- ---- a fragment
 
 -- the message's own number is 0 and it is a fragment, in mode 2
 abbrev pub taken : ℕ → List ℕ → Configuration → Bool
 taken own m v = eqb own 0 && is_fragment (type_of m) v
 
--- the assembly slice after it, and where its octets end there; 0 where none were taken
-pub record TakenIn (own : ℕ) (m : List ℕ) (v : Configuration) (w : Gathering) (a₀ : List ℕ) (end : ℕ) (a₁ : List ℕ) : Type 0 where
-  pub assembly : a₁ ≡ cond (taken own m v) (octets_put a₀ (place_in m w) (data_of m)) a₀
-  pub ends : end ≡ cond (taken own m v) (end_in m w) 0
+-- what the record holds of a gathered frame with fragment m more
+abbrev pub grown_in : List ℕ → Gathered → Gathered
+grown_in m q =
+    let w = gathering_in q [] in
+    record { state = channel_of m + 1; count = end_in m w; timestamp = (grown m w).timestamp; sequel = (grown m w).sequel }
 
 -- what the record holds of a gathered frame after message m, answered with n and governed by v
 unfoldable pub gathered_after : List ℕ → ℕ → Configuration → Gathered → Gathered
 gathered_after m n v q =
-    let w = gathering_in q [] in
-    cond (takes m n v && not (is_last m || closes m))
-    (record { state = channel_of m + 1; count = end_in m w; timestamp = (grown m w).timestamp; sequel = (grown m w).sequel })
-    (cond (drops m n v w) no_gathered q)
+    cond (takes m n v && not (is_last m || closes m)) (grown_in m q) (cond (drops m n v (gathering_in q [])) no_gathered q)
 
 -- ---- what is drawn
 
@@ -121,12 +99,23 @@ counts_with n k v = cond (eqb n 0) (counts_of k v) no_counts
 abbrev pub whole_in : List ℕ → Configuration → List ℕ → Chunk
 whole_in m v frame = cond (completes m v) (chunk 2 frame) (chunk_of m)
 
+-- what a message is answered with, and its counts
+pub record Done : Type 0 where
+  pub number : ℕ
+  pub counts : Counts
+
 -- Chunk k, governed by v, of a message whose own number is given: where that is 0 it is tried by 20 to 23 and drawn. The number that the
 -- message is answered with, its counts, and the slices; the assembly slice is left alone.
 pub record Concluded (own : ℕ) (k : Chunk) (v : Configuration) (sums : Sums) (s₀ : Slices) (d : Done) (s₁ : Slices) : Type 0 where
   pub number : d.number ≡ first own (whole_number k v (lengths s₀) sums)
   pub counts : d.counts ≡ counts_with d.number k v
   pub slices : s₁ ≡ cond (eqb d.number 0) (drawn k v s₀) s₀
+
+-- Message m, which checks 2 to 14 let pass, by record r: its number, its counts, and the slices as they are left
+pub record Handled (r : Receiver) (m : List ℕ) (s₀ : Slices) (d : Done) (s₁ : Slices) : Type 0 where
+  pub number : d.number ≡ number_of m (lengths s₀) (standing_of r s₀.assembly)
+  pub counts : d.counts ≡ counts_with d.number (whole_of m (governs m (channels_of r)) (gathering_of r s₀.assembly)) (governs m (channels_of r))
+  pub slices : s₁ ≡ slices_after m d.number (governs m (channels_of r)) (gathering_of r s₀.assembly) s₀
 
 -- ---- what is kept
 
@@ -165,13 +154,4 @@ pub record MemberOf (r : Receiver) (m : List ℕ) (n : ℕ) (r₁ : Receiver) : 
   pub number : (a : List ℕ) → n ≡ member_number m (standing_of r a)
   pub standing : n ≡ 0 → (a : List ℕ) → standing_of r₁ a ≡ standing_after m (standing_of r a)
   pub sound : consistent r₁ ≡ true
-  pub meters : r₁.meters ≡ r.meters
-
--- All messages of a set offered to record r: the reply; after an acceptance what the last one leaves, and after a refusal the channels that
--- are given and what was gathered; the meters stay.
-pub record SetOffered (r : Receiver) (octets : List ℕ) (reply : SetReply) (before : List ℕ) (r₁ : Receiver) : Type 0 where
-  pub answer : (a : List ℕ) → reply ≡ replied_to octets (standing_of r a)
-  pub standing : eqb reply.number 0 ≡ true → (a : List ℕ) → standing_of r₁ a ≡ standing_behind (standing_of r a) (parts_in octets)
-  pub sound : eqb reply.number 0 ≡ true → consistent r₁ ≡ true
-  pub refused : eqb reply.number 0 ≡ false → (r₁.channels ≡ before) × (r₁.gathered ≡ r.gathered)
   pub meters : r₁.meters ≡ r.meters

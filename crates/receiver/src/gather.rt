@@ -1,25 +1,36 @@
-// A frame that comes in fragments (C-12): what the record holds of it, checks 24 to 26, the taking of a fragment's octets into the assembly
-// slice, and what is gathered after a message. At most one frame is gathered at a time.
-ghost use Rattle.std.specs.Prelude.{◌≡◌, true, List, [], ℕ, ◌+◌, ◌<◌, ◌≤◌, ◌^◌, length};
-ghost use Rattle.receiver.specs.Message.{channel_of, type_of, data_of};
-ghost use Rattle.receiver.specs.Header.{header_of};
-ghost use Rattle.receiver.specs.Gathering.{gathers_on, place_in, end_in, grown};
-ghost use Rattle.receiver.specs.Checks.{most_octets, header_number, sequel_number, room_number};
-ghost use Rattle.receiver.specs.Effects.{takes};
-ghost use Rattle.receiver.specs.Record.{gathered_count, gathered_in, gathering_in, configuration_of};
-ghost use Rattle.receiver.specs.Steps.{gathered_by, no_gathered, TakenIn, gathered_after};
+// A frame that comes in fragments (C-12): what the record holds of it, checks 24 to 26, and what is gathered after a message. At most one frame
+// is gathered at a time.
+ghost use Rattle.std.specs.Prelude.{◌≡◌, true, false, cond, ◌&&◌, ◌||◌, eqb, is_some, List, [], ℕ, ◌+◌, ◌<◌, ◌≤◌};
+ghost use Rattle.receiver.specs.Message.{sequel_type};
+ghost use Rattle.receiver.specs.Modes.{void_mode};
+ghost use Rattle.receiver.specs.Governing.{Configuration};
+ghost use Rattle.receiver.specs.Chunk.{is_fragment};
+ghost use Rattle.receiver.specs.Gathering.{gathers_on, next_timestamp};
+ghost use Rattle.receiver.specs.Checks.{most_octets, sequel_number, room_number};
+ghost use Rattle.receiver.specs.Effects.{of_whole};
+ghost use Rattle.receiver.specs.Record.{gathering_in};
+ghost use Rattle.receiver.specs.Steps.{grown_in, gathered_after};
+ghost use Rattle.receiver.specs.Refusal.{number_in};
+ghost use Rattle.receiver.specs.Kinds.{type_number};
+ghost use Rattle.receiver.specs.Views.{ReadAs, meaning};
+ghost use Rattle.receiver.specs.Works.{WorkOf, HasRoom, end_behind};
 
-use super::chunk::{is_fragment, is_sequel};
-use super::header::{Header, data_of};
-use super::modes::{mode_in, void_mode};
-use super::{ChannelId, Config};
-use tags::levels::copy;
+use super::ChannelId;
+use super::chunk::ChunkType;
+use super::draw::Counts;
+use super::governing::Governing;
+use super::incoming::Message;
+use super::modes::Mode;
+use super::record::GATHERED;
+use super::refusal::Refusal;
+use super::work::Work;
 
 // The most octets of a frame.
 const MOST: usize = 1_000_000_000;
 
 // What the record holds of the frame: state 0 is no frame, and a channel plus 1 is one on that channel; how many of its octets stand at the
-// start of the assembly slice; the timestamp of its first fragment; and the number of the next sequel, as far as 32 bits tell it.
+// start of the assembly slice; the timestamp of its first fragment; and the number of the next sequel, as far as 32 bits tell it. No
+// Option: a C host keeps four numbers, and those of a record without a frame are handed back as they came.
 #[derive(Clone, Copy)]
 pub struct Gathered {
     pub state: u32,
@@ -28,175 +39,163 @@ pub struct Gathered {
     pub sequel: u32,
 }
 
-// The same as the four numbers of a record.
-pub(crate) fn gathered_in(gathered: &[u32]) -> Gathered
-    requires { length gathered.now ≡ gathered_count }
-    ensures { result ≡ gathered_in gathered.now }
-{
-    Gathered {
-        state: gathered[0],
-        count: gathered[1],
-        timestamp: gathered[2],
-        sequel: gathered[3],
+impl Gathered {
+    // A frame is gathered on the channel.
+    fn is_on(self, channel: ChannelId) -> bool
+        ensures { result ≡ gathers_on (gathering_in self []) channel.0 }
+    {
+        self.state == u32::from(channel.0) + 1
     }
-}
 
-// The four numbers of a record that is lent.
-pub(crate) fn set_gathered(gathered: &mut [u32], q: Gathered)
-    requires { length gathered.old ≡ gathered_count }
-    ensures { gathered.new ≡ gathered_by q }
-{
-    gathered[0] = q.state;
-    gathered[1] = q.count;
-    gathered[2] = q.timestamp;
-    gathered[3] = q.sequel;
-}
-
-// No frame.
-pub(crate) fn no_gathered() -> Gathered
-    ensures { result ≡ no_gathered }
-{
-    Gathered {
-        state: 0,
-        count: 0,
-        timestamp: 0,
-        sequel: 0,
+    // The timestamp of its next sequel.
+    fn next_timestamp(self) -> u32
+        ensures { result ≡ next_timestamp (gathering_in self []) }
+    {
+        self.timestamp.wrapping_add(self.sequel)
     }
-}
 
-// A frame is gathered on the channel.
-fn gathers_on(q: Gathered, channel: ChannelId) -> bool
-    ensures { (a : List ℕ) → result ≡ gathers_on (gathering_in q a) channel.0 }
-{
-    q.state == (channel.0 as u32) + 1
-}
-
-// ---- checks
-
-// Checks 24 and 25.
-pub(crate) fn sequel_number(h: Header, k: Config, q: Gathered) -> u8
-    ensures { (m area a : List ℕ) → h ≡ header_of m → result ≡ sequel_number m (configuration_of k area) (gathering_in q a) }
-{
-    let heard = is_sequel(h.chunk_type) & !void_mode(mode_in(k.state));
-    if !heard {
-        return 0;
+    // Where the octets of a fragment come to stand in the assembly slice: a sequel goes on, a first fragment begins.
+    pub(crate) fn place(self, chunk_type: ChunkType) -> usize
+        ensures { result ≡ cond (sequel_type (type_number chunk_type)) self.count 0 }
+    {
+        match chunk_type {
+            ChunkType::Sequel => self.count as usize,
+            _ => 0,
+        }
     }
-    let channel = h.channel;
-    let gathers = gathers_on(q, channel);
-    if !gathers {
-        return 24;
-    }
-    let next = ((q.timestamp as u64) + (q.sequel as u64)) % 4_294_967_296;
-    let wrong = (h.timestamp as u64) != next;
-    if wrong {
-        return 25;
-    }
-    0
-}
 
-// Where the octets of a fragment come to stand in the assembly slice.
-fn place_in(chunk_type: u8, q: Gathered) -> usize
-    ensures { ((m a : List ℕ) → chunk_type ≡ type_of m → result ≡ place_in m (gathering_in q a)) × (result < 2 ^ 32) }
-{
-    let sequel = is_sequel(chunk_type);
-    if sequel {
-        return q.count as usize;
+    // Checks 24 and 25, of a message in another mode than 0.
+    #[tactic(auto, unfolding(crate::specs::Checks::sequel_number))]
+    pub(crate) fn check_sequel(self, message: &Message) -> Result<(), Refusal>
+        ensures { (m a : List ℕ) (v : Configuration) → ReadAs m message.now → void_mode v.mode ≡ false → number_in result ≡ sequel_number m v (gathering_in self a) }
+    {
+        if message.chunk.chunk_type != ChunkType::Sequel {
+            return Ok(());
+        }
+        if !self.is_on(message.channel) {
+            return Err(Refusal::Stray);
+        }
+        if message.timestamp != self.next_timestamp() {
+            return Err(Refusal::Timestamp);
+        }
+        Ok(())
     }
-    0
-}
 
-// Check 26, of a message with so many octets of data.
-pub(crate) fn room_number(h: Header, k: Config, q: Gathered, octets: usize, assembly: usize) -> u8
-    requires { octets ≤ most_octets }
-    ensures { (m area a : List ℕ) → h ≡ header_of m → octets ≡ length (data_of m) → result ≡ room_number m (configuration_of k area) (gathering_in q a) assembly }
-{
-    let end = place_in(h.chunk_type, q) + octets;
-    let short = (assembly < end) | (MOST < end);
-    let refuses = is_fragment(h.chunk_type, k) & short;
-    if refuses {
-        return 26;
+    // Check 26, with an assembly slice of so many octets lent.
+    #[tactic(auto, unfolding(crate::specs::Checks::room_number))]
+    pub(crate) fn check_room(
+        self,
+        work: Work,
+        message: &Message,
+        assembly: usize,
+    ) -> Result<(), Refusal>
+        ensures number { (m a : List ℕ) (v : Configuration) → ReadAs m message.now → WorkOf work (type_number message.now.chunk.chunk_type) v
+            → number_in result ≡ room_number m v (gathering_in self a) assembly }
+        ensures room { number_in result ≡ 0 → HasRoom work message.now self assembly }
+    {
+        let end = self.place(message.chunk.chunk_type) + message.chunk.section.len();
+        if work == Work::Gather && (assembly < end || MOST < end) {
+            return Err(Refusal::Assembly);
+        }
+        Ok(())
     }
-    0
-}
-
-// ---- the taking of a fragment
-
-// The octets of a fragment whose message has passed its own checks, put behind those before it; where they end. Of another message nothing.
-pub(crate) fn take(
-    own: u8,
-    h: Header,
-    k: Config,
-    q: Gathered,
-    m: &[u8],
-    assembly: &mut [u8],
-) -> usize
-    requires h_value { h ≡ header_of m.now }
-    requires m_value { own ≡ 0 → header_number m.now ≡ 0 }
-    requires by_index { (area : List ℕ) → own ≡ 0 → room_number m.now (configuration_of k area) (gathering_in q assembly.old) (length assembly.old) ≡ 0 }
-    ensures by_index_2 { (area : List ℕ) → TakenIn own m.now (configuration_of k area) (gathering_in q assembly.old) assembly.old result assembly.new }
-    ensures upper_bound { (result ≤ length assembly.new) × (result ≤ most_octets) }
-{
-    let taken = (own == 0) & is_fragment(h.chunk_type, k);
-    if !taken {
-        return 0;
-    }
-    let start = h.start;
-    let octets = data_of(m, start);
-    let place = place_in(h.chunk_type, q);
-    copy(octets, assembly, place);
-    place + octets.len()
 }
 
 // ---- what is gathered after a message
 
-// A fragment was taken: its message was accepted, or it was the last and the whole was refused by 20 to 23.
-fn was_taken(number: u8, h: Header, k: Config) -> bool
-    ensures { (m area : List ℕ) → h ≡ header_of m → result ≡ takes m number (configuration_of k area) }
+// The message is a fragment, in the mode of frames.
+#[tactic(auto, unfolding(crate::specs::Record::configuration_of))]
+fn gathers(message: &Message, governing: &Governing) -> bool
+    ensures { result ≡ is_fragment (type_number message.now.chunk.chunk_type) (meaning governing.now) }
 {
-    let of_whole = (20 <= number) & (number <= 23);
-    is_fragment(h.chunk_type, k) & ((number == 0) | (h.last & of_whole))
+    matches!(
+        (message.chunk.chunk_type, governing.mode),
+        (ChunkType::First | ChunkType::Sequel, Some(Mode::Frame))
+    )
 }
 
-// The frame with one fragment more, whose octets end there.
-fn with_fragment(h: Header, q: Gathered, end: usize) -> Gathered
-    requires { end ≤ most_octets }
-    ensures { (m a : List ℕ) → h ≡ header_of m → result ≡ record { state = channel_of m + 1; count = end; timestamp = (grown m (gathering_in q a)).timestamp; sequel = (grown m (gathering_in q a)).sequel } }
-{
-    let state = (h.channel.0 as u32) + 1;
-    let count = end as u32;
-    let sequel = is_sequel(h.chunk_type);
-    if sequel {
-        let number = ((q.sequel as u64) + 1) % 4_294_967_296;
-        return Gathered {
+impl Gathered {
+    // No frame.
+    const NONE: Gathered = Gathered {
+        state: 0,
+        count: 0,
+        timestamp: 0,
+        sequel: 0,
+    };
+
+    // The frame with one fragment more.
+    fn grown(self, message: &Message) -> Gathered
+        requires { end_behind self message.now ≤ most_octets }
+        ensures { (m : List ℕ) → ReadAs m message.now → result ≡ grown_in m self }
+    {
+        let state = u32::from(message.channel.0) + 1;
+        let end = self.place(message.chunk.chunk_type) + message.chunk.section.len();
+        let count = end as u32;
+        match message.chunk.chunk_type {
+            ChunkType::Sequel => Gathered {
+                state,
+                count,
+                timestamp: self.timestamp,
+                sequel: self.sequel.wrapping_add(1),
+            },
+            _ => Gathered {
+                state,
+                count,
+                timestamp: message.timestamp,
+                sequel: 1,
+            },
+        }
+    }
+
+    // What the record holds of the frame after a message.
+    #[tactic(auto, unfolding(crate::specs::Steps::gathered_after))]
+    pub(crate) fn after(
+        self,
+        message: &Message,
+        governing: &Governing,
+        answer: &Result<Counts, Refusal>,
+    ) -> Gathered
+        requires { number_in answer.now ≡ 0 → is_fragment (type_number message.now.chunk.chunk_type) (meaning governing.now) ≡ true → end_behind self message.now ≤ most_octets }
+        ensures { (m : List ℕ) → ReadAs m message.now → result ≡ gathered_after m (number_in answer.now) (meaning governing.now) self }
+    {
+        let fragment = gathers(message, governing);
+        let here = self.is_on(message.channel);
+        match answer {
+            Ok(_) if fragment & !(message.last | message.close) => self.grown(message),
+            Ok(_) if fragment | (message.routing.is_some() | message.close) & here =>
+                Gathered::NONE,
+            Err(Refusal::Timestamp | Refusal::Assembly) => Gathered::NONE,
+            Err(Refusal::MatchBits) if here => Gathered::NONE,
+            Err(Refusal::Samples | Refusal::Levels | Refusal::Room | Refusal::Meter)
+                if fragment & message.last => Gathered::NONE,
+            _ => self,
+        }
+    }
+}
+
+impl From<[u32; GATHERED]> for Gathered {
+    ghost from_gives = { λ numbers result. result ≡ Rattle.receiver.specs.Record.gathered_in numbers };
+
+    fn from(numbers: [u32; GATHERED]) -> Self {
+        let [state, count, timestamp, sequel] = numbers;
+        Gathered {
             state,
             count,
-            timestamp: q.timestamp,
-            sequel: number as u32,
-        };
-    }
-    Gathered {
-        state,
-        count,
-        timestamp: h.timestamp,
-        sequel: 1,
+            timestamp,
+            sequel,
+        }
     }
 }
 
-// What the record holds of the frame after a message answered with a number; the octets of a fragment that was taken end there.
-pub(crate) fn gathered_after(number: u8, h: Header, k: Config, q: Gathered, end: usize) -> Gathered
-    requires { end ≤ most_octets }
-    ensures { (m area : List ℕ) → h ≡ header_of m → (takes m number (configuration_of k area) ≡ true → end ≡ end_in m (gathering_in q [])) → result ≡ gathered_after m number (configuration_of k area) q }
-{
-    let taken = was_taken(number, h, k);
-    let goes_on = taken & !(h.last | h.close);
-    if goes_on {
-        return with_fragment(h, q, end);
+impl From<Gathered> for [u32; GATHERED] {
+    ghost from_gives = { λ gathered result. result ≡ Rattle.receiver.specs.Steps.gathered_by gathered };
+
+    fn from(gathered: Gathered) -> Self {
+        [
+            gathered.state,
+            gathered.count,
+            gathered.timestamp,
+            gathered.sequel,
+        ]
     }
-    let decides = (number == 19) | ((number == 0) & (h.routing | h.close));
-    let channel = h.channel;
-    let dropped = taken | (number == 25) | (number == 26) | (decides & gathers_on(q, channel));
-    if dropped {
-        return no_gathered();
-    }
-    q
 }

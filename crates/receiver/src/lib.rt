@@ -5,32 +5,35 @@ mod channels;
 mod chunk;
 mod draw;
 mod gather;
+mod governing;
 mod header;
 pub mod host;
+mod incoming;
 mod message;
 mod modes;
 pub mod place;
 mod record;
-mod route;
+pub mod refusal;
 pub mod section;
 mod sets;
 pub mod stream;
+mod work;
 
 use record::{GATHERED, METERS, RECORD};
 
 // A channel's identifier, six bits of a message. A type of its own, so that no service identifier is taken for one.
 #[repr(C)]
-#[derive(Clone, Copy)]
+#[derive(Clone, Copy, Debug, Default, PartialEq, Eq)]
 pub struct ChannelId(pub u8);
 
 // A service's identifier.
 #[repr(C)]
-#[derive(Clone, Copy)]
+#[derive(Clone, Copy, Debug, PartialEq, Eq)]
 pub struct ServiceId(pub u8);
 
-// What the call of a message answers. A refusal has 0 in all but the number.
+// What the call of a message answers. A refusal has 0 in all but the number. Numbers, since C has it: exports take no enum, Option or Result.
 #[repr(C)]
-#[derive(Clone, Copy)]
+#[derive(Clone, Copy, Debug, Default, PartialEq, Eq)]
 pub struct Reply {
     pub number: u8,
     pub channel: ChannelId,
@@ -40,16 +43,6 @@ pub struct Reply {
     pub points: u32,
     pub lit_points: u32,
     pub levels: u32,
-}
-
-// What the record holds of one channel besides its area: state 0 is closed, and a mode plus 1 is open in that mode; the sizes are the tag
-// layer's. The area stands by itself, because a struct that holds it is copied from function to function.
-#[derive(Clone, Copy)]
-pub struct Config {
-    pub state: u8,
-    pub match_bits: u8,
-    pub size: u8,
-    pub colours: u8,
 }
 
 // The receiver: three meters, four numbers of the frame that is being gathered, as gather.rt has them, and the octets of 64 channels as
@@ -71,9 +64,9 @@ pub struct Outcome {
 }
 
 // What the call of a set answers (C-14): the place of the first refused message, counted from 0, and its number; or how many there were and
-// 0.
+// 0. Numbers, as in Reply.
 #[repr(C)]
-#[derive(Clone, Copy)]
+#[derive(Clone, Copy, Debug, PartialEq, Eq)]
 pub struct SetReply {
     pub place: usize,
     pub number: u8,
@@ -89,7 +82,7 @@ pub struct SetOutcome {
 
 // The three meters as they stand: lit microseconds, points, lit points.
 #[repr(C)]
-#[derive(Clone, Copy)]
+#[derive(Clone, Copy, Debug, Default, PartialEq, Eq)]
 pub struct Readings {
     pub lit_time: u64,
     pub points: u64,

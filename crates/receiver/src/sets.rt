@@ -1,88 +1,64 @@
 // A set of configuring messages in one slice (C-14): each is offered to what the one before left, and at the first that is refused the
 // record is put back as it was. Check 1 is tried before the first alone, and no message of type 0x00 writes to a slice or to a meter.
-ghost use Rattle.std.specs.Prelude.{◌≡◌, true, cond, length, eqb};
-ghost use Rattle.receiver.specs.Record.{record_size, record_in, consistent};
+ghost use Rattle.std.specs.Prelude.{◌≡◌, true};
+ghost use Rattle.receiver.specs.Record.{record_in, consistent};
 ghost use Rattle.receiver.specs.Contract.{set_outcome, Patched};
-ghost use Rattle.receiver.specs.Steps.{MemberOf, SetOffered};
+ghost use Rattle.receiver.specs.Sets.{set_reply};
+ghost use Rattle.receiver.specs.Refusal.{refusal_number, number_in};
+ghost use Rattle.receiver.specs.Steps.{MemberOf};
 
-use super::chunk::VOID;
-use super::gather::{gathered_in, set_gathered};
-use super::header::{foreign_number, octet};
-use super::place::{mewkoast_patch_on, offer_to};
-use super::record::{GATHERED, METERS, RECORD};
-use super::{Receiver, SetOutcome, SetReply, stream};
-use tags::levels::copy;
+use super::chunk::ChunkType;
+use super::header::{check_front, octet};
+use super::message::answer;
+use super::record::{GATHERED, METERS, RECORD, is_sound};
+use super::refusal::Refusal;
+use super::stream::Parts;
+use super::{Receiver, SetOutcome, SetReply};
 
-// One message of a set, offered to a record that check 1 passes: its number. One of type 0x00 writes to no slice and to no meter, so what
-// is lent here does not matter.
-fn configure(channels: &mut [u8], meters: &mut [u64], gathered: &mut [u32], m: &[u8]) -> u8
-    requires { consistent (record_in channels.old meters.old gathered.old) ≡ true }
-    ensures { MemberOf (record_in channels.old meters.old gathered.old) m.now result (record_in channels.new meters.new gathered.new) }
-{
-    let foreign = octet(m, 3) != VOID;
-    if foreign {
-        return foreign_number(m);
-    }
-    let mut rows = [0i32; 1];
-    let mut levels = [0u8; 1];
-    let mut assembly = [0u8; 1];
-    let reply = offer_to(
-        channels,
-        meters,
-        gathered,
-        m,
-        &mut rows,
-        &mut levels,
-        &mut assembly,
-    );
-    reply.number
-}
-
-// The channels as they were before the set, where a message of it was answered with a number that refuses it.
-fn put_back(number: u8, before: &[u8], channels: &mut [u8])
-    requires { length channels.old ≡ length before.now }
-    ensures { channels.new ≡ cond (eqb number 0) channels.old before.now }
-{
-    let refused = number != 0;
-    if refused {
-        copy(before, channels, 0);
-    }
-}
-
-// The messages of a set in turn, on a record that check 1 passes; `before` holds its channels, which are put back at the first refusal.
-pub(crate) fn offer_each(
-    channels: &mut [u8],
-    before: &[u8],
-    meters: &mut [u64],
-    gathered: &mut [u32],
-    octets: &[u8],
-) -> SetReply
-    requires before_len { length before.now ≡ record_size }
-    requires gathered_value { consistent (record_in channels.old meters.old gathered.old) ≡ true }
-    ensures { SetOffered (record_in channels.old meters.old gathered.old) octets.now result before.now (record_in channels.new meters.new gathered.new) }
-{
-    let q = gathered_in(gathered);
-    let mut at: usize = 0;
-    let mut place: usize = 0;
-    while at < octets.len() {
-        let end = at + stream::part(&octets[at..]);
-        let number = configure(channels, meters, gathered, &octets[at..end]);
-        put_back(number, before, channels);
-        let ends = number != 0;
-        if ends {
-            set_gathered(gathered, q);
-            return SetReply { place, number };
+impl SetReply {
+    // To a set that is refused at a place.
+    pub(crate) fn refused(place: usize, refusal: Refusal) -> Self
+        ensures { result ≡ set_reply place (refusal_number refusal) }
+    {
+        SetReply {
+            place,
+            number: refusal.number(),
         }
-        at = end;
-        place += 1;
     }
-    SetReply { place, number: 0 }
 }
 
-// ---- the call that takes the record as a value
+// One message of a set, offered to a record that check 1 passes. One of type 0x00 writes to no slice and to no meter, so none is lent. The
+// arrays of the record are lent one by one, as a C host lends them.
+fn configure(
+    channels: &mut [u8; RECORD],
+    meters: &[u64; METERS],
+    gathered: &mut [u32; GATHERED],
+    octets: &[u8],
+) -> Result<(), Refusal>
+    requires { consistent (record_in channels.old meters.now gathered.old) ≡ true }
+    ensures { MemberOf (record_in channels.old meters.now gathered.old) octets.now (number_in result) (record_in channels.new meters.now gathered.new) }
+{
+    // A number: the octet may be no type.
+    if octet(octets, 3) != ChunkType::Void as u8 {
+        check_front(octets)?;
+        return Err(Refusal::ChunkType);
+    }
+    let mut sums = *meters;
+    answer(
+        channels,
+        &mut sums,
+        gathered,
+        octets,
+        &mut [],
+        &mut [],
+        &mut [],
+    )?;
+    Ok(())
+}
 
-// The call in place, on arrays, as the fields of a receiver are lent.
-fn patch_in(
+// The messages of a set, offered to a record that is lent: all accepted, and it is left as the last one leaves it, or none, and it is left as
+// it came. One copy of its channels is made for that; the meters are only read.
+pub(crate) fn offer_each(
     channels: &mut [u8; RECORD],
     meters: &[u64; METERS],
     gathered: &mut [u32; GATHERED],
@@ -90,7 +66,22 @@ fn patch_in(
 ) -> SetReply
     ensures { Patched (record_in channels.old meters.now gathered.old) octets.now (set_outcome (record_in channels.new meters.now gathered.new) result) }
 {
-    mewkoast_patch_on(channels, meters, gathered, octets)
+    if !is_sound(channels, meters) {
+        return SetReply::refused(0, Refusal::Record);
+    }
+    let before = *channels;
+    let frame = *gathered;
+    // Counted by hand: the count behind the last is asked for too.
+    let mut place = 0;
+    for part in Parts::of(octets) {
+        if let Err(refusal) = configure(channels, meters, gathered, part) {
+            *channels = before;
+            *gathered = frame;
+            return SetReply::refused(place, refusal);
+        }
+        place += 1;
+    }
+    SetReply { place, number: 0 }
 }
 
 impl Receiver {
@@ -99,10 +90,12 @@ impl Receiver {
         ensures { Patched self octets.now result }
     {
         let mut receiver = self;
-        let meters = receiver.meters;
-        let mut gathered = receiver.gathered;
-        let reply = patch_in(&mut receiver.channels, &meters, &mut gathered, octets);
-        receiver.gathered = gathered;
+        let reply = offer_each(
+            &mut receiver.channels,
+            &receiver.meters,
+            &mut receiver.gathered,
+            octets,
+        );
         SetOutcome { receiver, reply }
     }
 }

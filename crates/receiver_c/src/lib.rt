@@ -1,5 +1,6 @@
 // The archive of the receiver for C hosts. Each call is that of the same name in crates/receiver/src/host.rt or place.rt, with its whole
-// promise; proofs/Exports.antt says that demand 3 speaks of those that start, change or read a record.
+// promise; proofs/Exports.antt says that demand 3 speaks of those that start, change or read a record. They are written again,
+// since an archive for C is a crate above its library, and exports its own functions alone.
 #![tactic(auto)]
 
 ghost use Rattle.std.specs.Prelude.{◌≡◌};

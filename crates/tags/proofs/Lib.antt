@@ -1,5 +1,9 @@
 pub mod ArrayLaws
 pub mod DictionaryWalkLaws
+pub mod TagLaws
+pub mod HostLaws
 pub mod SubsetLaws
 pub mod DimmerWalkLaws
+pub mod KeptSteps
 pub mod LevelWriteLaws
+pub mod RowBounds

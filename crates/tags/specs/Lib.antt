@@ -1,7 +1,9 @@
 pub mod Limits
+pub mod Refusal
 pub mod Choice
 pub mod ChoiceLaws
 pub mod Tag
+pub mod TagView
 pub mod Dictionary
 pub mod DictionaryLaws
 pub mod Dimmer
@@ -12,6 +14,7 @@ pub mod LayoutLaws
 pub mod Kept
 pub mod KeptLaws
 pub mod DictionaryView
+pub mod CheckedView
 pub mod UnknownLaws
 pub mod DimmerView
 pub mod Rows

@@ -14,7 +14,7 @@ use Rattle.tags.specs.DictionaryView.{past_tag}
 
 -- ---- it is none of the tags that document 01 lists
 
-record Unlisted (w : ℕ) : Type 0 where
+pub record Unlisted (w : ℕ) : Type 0 where
   pub space : is_space w ≡ false
   pub precision : is_precision w ≡ false
   pub hint : is_hint w ≡ false
@@ -24,7 +24,7 @@ record Unlisted (w : ℕ) : Type 0 where
   pub prefix : is_prefix w ≡ false
   pub signal : is_signal w ≡ false
 
-unlisted : (w : ℕ) → known_tag w ≡ false → Unlisted w
+pub unlisted : (w : ℕ) → known_tag w ≡ false → Unlisted w
 unfolding known_tag
 unlisted w u =
     let nops = is_void w || is_space w || eqb w 0x4000 in

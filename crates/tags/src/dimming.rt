@@ -1,175 +1,222 @@
-// Dimmer tags, checks 13 and 14 (document 01, "Dimmer tags, modes 4 and 6"). A tag says how many octets after it are its own, and the walk
-// goes from tag to tag. specs/Dimmer.antt has the same walk as definitions, octet by octet.
-ghost use Rattle.std.specs.Prelude.{◌≡◌, false, ◌+◌, ◌*◌, ◌<◌, ◌≤◌, length, get_or};
-ghost use Rattle.tags.specs.Dimmer.{bad_dimmer_tag, clashing_tag, dimmer_tag_number, mapping_with, overlap, overlaps_any, pair_at, base_in_range, count_in_range};
-ghost use Rattle.tags.specs.Layout.{mapping_of, empty_dimmer, dimmer_mapped};
-ghost use Rattle.tags.specs.DimmerView.{gathered, DimmerFilled};
+// Dimmer tags, checks 13 and 14. A tag says how many octets after it are its own, and the walk goes from tag to tag. specs/Dimmer.antt has
+// the same walk as definitions, octet by octet; specs/DimmerView.antt says what the types here are in their terms.
+ghost use Rattle.std.specs.Prelude.{◌≡◌, true, false, cond, ◌&&◌, ◌||◌, ◌+◌, ◌*◌, ◌<◌, ◌≤◌, length, Ok, Err, IfOk};
+ghost use Rattle.tags.specs.Dimmer.{no_mapping, base_of, count_of, overlap, overlaps_any, base_in_range, count_in_range};
+ghost use Rattle.tags.specs.Layout.{dimmer_of, dimmer_mapped};
+ghost use Rattle.tags.specs.DimmerView.{subset_number, mapping_so_far, Based, tag_in_range, tag_read, tag_clashes, clash_if, with_tag, mapped_in};
 
-use crate::kept::no_dimmer;
 use crate::limits::{DROP_BASE, LAST_LEVEL, LEVEL_END, SUBSET_LIMIT};
+use crate::refusal::Refusal;
 use crate::{Dimmer, Mapped};
+use samples::fixed_list::FixedList;
 
-// What the tags so far say: the base of a 42, 0 without one, and how many subsets there are. The arrays of the subsets' bases and counts
-// stand beside it, so that a 43 writes one element of each and moves nothing.
-#[derive(Clone, Copy)]
-struct DimmerWalk {
-    base: u16,
-    count: u8,
+// `count` levels from number `base` on, or that many octets that are dropped.
+#[derive(Clone, Copy, Debug, PartialEq, Eq)]
+pub(crate) struct Subset {
+    pub base: u16,
+    pub count: u8,
 }
 
-// octet i, 0 past the end: so that each test of a tag stands by itself
-fn at(tags: &[u8], i: usize) -> u8
-    ensures { result ≡ get_or tags.now i 0 }
-{
-    if i < tags.len() {
-        return tags[i];
+impl Subset {
+    // what follows its last level
+    fn end(self) -> u32
+        ensures { result ≡ self.base + self.count }
+    {
+        u32::from(self.base) + u32::from(self.count)
     }
-    0
-}
 
-// the two octets from place i on, big-endian
-fn pair_at(tags: &[u8], i: usize) -> u16
-    requires { i ≤ length tags.now }
-    ensures { result ≡ pair_at tags.now i }
-{
-    at(tags, i) as u16 * 256 + at(tags, i + 1) as u16
+    // base and count, as they are in a mapping
+    fn parts(self) -> (u16, u8)
+        ensures base { base_of (subset_number self) ≡ result.0 }
+        ensures count { count_of (subset_number self) ≡ result.1 }
+    {
+        (self.base, self.count)
+    }
+
+    // whether two subsets share a level; a dropped one has none
+    fn overlaps(self, other: Subset) -> bool
+        ensures { result ≡ overlap (subset_number self) (subset_number other) }
+    {
+        self.base != DROP_BASE
+            && other.base != DROP_BASE
+            && u32::from(self.base) < other.end()
+            && u32::from(other.base) < self.end()
+    }
+
+    pub fn is_in_range(self) -> bool
+        ensures { result ≡ (base_in_range self.base && count_in_range self.base self.count) }
+    {
+        base_in_range(self.base) && count_in_range(self.base, self.count)
+    }
 }
 
 pub fn base_in_range(base: u16) -> bool
     ensures { result ≡ base_in_range base }
 {
-    (base >= 1) & (base <= LAST_LEVEL) | (base == DROP_BASE)
+    matches!(base, 1..=LAST_LEVEL | DROP_BASE)
 }
 
 pub fn count_in_range(base: u16, count: u8) -> bool
     ensures { result ≡ count_in_range base count }
 {
-    (count >= 1) & ((base as usize + count as usize <= LEVEL_END) | (base == DROP_BASE))
+    count >= 1 && (usize::from(base) + usize::from(count) <= LEVEL_END || base == DROP_BASE)
 }
 
-// Check 13 at the tag in place i. The low four bits of each tag say how many operands it has.
-fn bad(tags: &[u8], i: usize) -> bool
-    requires { i < length tags.now }
-    ensures { result ≡ bad_dimmer_tag tags.now i }
-{
-    let tag = tags[i];
-    let own = tag % 16;
-    let base = pair_at(tags, i + 1);
-    let based = base_in_range(base);
-    let counted = count_in_range(base, at(tags, i + 3));
-    !((tag < 16) | (tag == 0x42) | (tag == 0x43))
-        | (tags.len() < i + 1 + own as usize)
-        | (tag == 0x42) & !based
-        | (tag == 0x43) & !(based & counted)
+// A tag with its operands.
+#[derive(Clone, Copy, Debug, PartialEq, Eq)]
+enum Tag {
+    // 0n: the next n octets are passed over
+    Skip,
+    // 42: the base of the contiguous set
+    Whole(u16),
+    // 43
+    Part(Subset),
 }
 
-// whether two subsets share a level; a dropped one has none
-fn share(base: u16, count: u8, other: u16, others: u8) -> bool
-    ensures { result ≡ overlap (base * 256 + count) (other * 256 + others) }
-{
-    let end = base as u32 + count as u32;
-    let other_end = other as u32 + others as u32;
-    !(base == DROP_BASE)
-        & !(other == DROP_BASE)
-        & ((base as u32) < other_end)
-        & ((other as u32) < end)
-}
-
-// whether a subset shares a level with one of the subsets so far
-fn shares_any(base: u16, count: u8, p: DimmerWalk, bases: &[u16], counts: &[u8]) -> bool
-    requires { DimmerFilled (gathered p bases.now counts.now) }
-    ensures { result ≡ overlaps_any (base * 256 + count) (mapping_of (gathered p bases.now counts.now)).subsets }
-{
-    let n = p.count as usize;
-    let mut hit = false;
-    let mut j: usize = 0;
-    while j < n {
-        hit = hit | share(base, count, bases[j], counts[j]);
-        j += 1;
+impl Tag {
+    // The first tag of the octets; check 13 refuses it where it is unknown, out of range or passes the end.
+    #[tactic(auto, unfolding(crate::specs::Dimmer::bad_dimmer_tag))]
+    fn read(tags: &[u8]) -> Result<Tag, Refusal>
+        ensures value { result ≡ tag_read tags.now }
+        ensures in_range { IfOk result (λ tag. tag_in_range tag ≡ true) }
+    {
+        match tags {
+            [0x42, high, low, ..] => Tag::Whole(u16::from_be_bytes([*high, *low])).checked(),
+            [0x43, high, low, count, ..] => {
+                let base = u16::from_be_bytes([*high, *low]);
+                Tag::Part(Subset {
+                    base,
+                    count: *count,
+                })
+                .checked()
+            }
+            [skip, own @ ..] if *skip < 16 && usize::from(*skip) <= own.len() => Ok(Tag::Skip),
+            _ => Err(Refusal::BadDimmerTag),
+        }
     }
-    hit
+
+    // check 13 of what it says
+    fn checked(self) -> Result<Tag, Refusal>
+        ensures { result ≡ cond (tag_in_range self) (Ok self) (Err Refusal.BadDimmerTag) }
+    {
+        let in_range = match self {
+            Tag::Skip => true,
+            Tag::Whole(base) => base_in_range(base),
+            Tag::Part(subset) => subset.is_in_range(),
+        };
+        if in_range {
+            Ok(self)
+        } else {
+            Err(Refusal::BadDimmerTag)
+        }
+    }
 }
 
-// check 14 at the tag in place i; only a 43 is held against the subsets so far
-fn clashes(tags: &[u8], i: usize, p: DimmerWalk, bases: &[u16], counts: &[u8]) -> bool
-    requires { (i < length tags.now) × DimmerFilled (gathered p bases.now counts.now) }
-    ensures { result ≡ clashing_tag tags.now i (mapping_of (gathered p bases.now counts.now)) }
+// What the tags so far say: the base of a 42, or the subsets of the 43s.
+#[derive(Drop)]
+struct Walk {
+    base: Option<u16>,
+    subsets: FixedList<Subset, SUBSET_LIMIT>,
+}
+
+impl Walk {
+    fn new() -> Walk
+        ensures value { mapping_so_far result ≡ no_mapping }
+        ensures based { Based result }
+    {
+        Walk {
+            base: None,
+            subsets: FixedList::new(Subset { base: 0, count: 0 }),
+        }
+    }
+
+    // whether a subset shares a level with one of those so far
+    fn overlaps(&self, subset: Subset) -> bool
+        ensures { result ≡ overlaps_any (subset_number subset) (mapping_so_far self.now).subsets }
+    {
+        self.subsets
+            .as_slice()
+            .iter()
+            .any(|other| subset.overlaps(*other))
+    }
+
+    // What a tag says taken in; check 14 refuses it where it doesn't go with those before it.
+    fn take(&mut self, tag: Tag) -> Result<(), Refusal>
+        requires in_range { tag_in_range tag ≡ true }
+        requires based { Based self.old }
+        ensures value { result ≡ clash_if (tag_clashes tag (mapping_so_far self.old)) }
+        ensures after { mapping_so_far self.new ≡ cond (tag_clashes tag (mapping_so_far self.old)) (mapping_so_far self.old) (with_tag tag (mapping_so_far self.old)) }
+        ensures based { Based self.new }
+    {
+        match tag {
+            Tag::Skip => Ok(()),
+            Tag::Whole(base) => {
+                if self.base.is_some() || !self.subsets.is_empty() {
+                    return Err(Refusal::Clash);
+                }
+                self.base = Some(base);
+                Ok(())
+            }
+            Tag::Part(subset) => {
+                if self.base.is_some() || self.subsets.is_full() || self.overlaps(subset) {
+                    return Err(Refusal::Clash);
+                }
+                self.subsets.push(subset);
+                Ok(())
+            }
+        }
+    }
+
+    // The mapping as C has it.
+    #[tactic(auto, using(crate::proofs::DimmerWalkLaws::stored), unfolding(crate::specs::Layout::padded))]
+    fn to_dimmer(&self) -> Dimmer
+        ensures { result ≡ dimmer_of (mapping_so_far self.now) }
+    {
+        let mut bases = [0; SUBSET_LIMIT];
+        let mut counts = [0; SUBSET_LIMIT];
+        for (i, subset) in self.subsets.as_slice().iter().enumerate() {
+            (bases[i], counts[i]) = subset.parts();
+        }
+        Dimmer {
+            bases,
+            counts,
+            base: self.base.unwrap_or(0),
+            count: self.subsets.len(),
+        }
+    }
+}
+
+// The tags of a configuration in mode 4 or 6: the refusal of the first tag that is refused, or what they say.
+pub fn read(tags: &[u8]) -> Result<Dimmer, Refusal>
+    ensures { mapped_in result ≡ dimmer_mapped tags.now }
 {
-    let tag = tags[i];
-    let whole = !(p.base == 0);
-    if tag == 0x43 {
-        let hit = shares_any(pair_at(tags, i + 1), at(tags, i + 3), p, bases, counts);
-        return whole | (SUBSET_LIMIT <= p.count as usize) | hit;
+    let mut walk = Walk::new();
+    let mut rest = tags;
+    while let [tag, ..] = rest {
+        walk.take(Tag::read(rest)?)?;
+        rest = &rest[1 + usize::from(*tag % 16)..];
     }
-    (tag == 0x42) & (whole | (0 < p.count))
+    Ok(walk.to_dimmer())
 }
 
-// the number that refuses the tag in place i, 0 where it passes
-fn tag_number(tags: &[u8], i: usize, p: DimmerWalk, bases: &[u16], counts: &[u8]) -> u8
-    requires { (i < length tags.now) × DimmerFilled (gathered p bases.now counts.now) }
-    ensures { result ≡ dimmer_tag_number tags.now i (mapping_of (gathered p bases.now counts.now)) }
-{
-    if bad(tags, i) {
-        return 13;
+// As Checked has in dictionary.rt: C has two structs.
+impl From<Result<Dimmer, Refusal>> for Mapped {
+    ghost from_gives = { λ answer mapped. mapped ≡ mapped_in answer };
+
+    fn from(answer: Result<Dimmer, Refusal>) -> Self {
+        match answer {
+            Ok(dimmer) => Mapped { number: 0, dimmer },
+            Err(refusal) => Mapped {
+                number: refusal.number(),
+                dimmer: Dimmer::default(),
+            },
+        }
     }
-    if clashes(tags, i, p, bases, counts) {
-        return 14;
-    }
-    0
 }
 
-// what the tags say with the tag in place i, which passes both checks: so a 43 has room
-fn with(tags: &[u8], i: usize, p: DimmerWalk, bases: &mut [u16], counts: &mut [u8]) -> DimmerWalk
-    requires i_in_bounds { (i < length tags.now) × DimmerFilled (gathered p bases.old counts.old) }
-    requires counts_value { clashing_tag tags.now i (mapping_of (gathered p bases.old counts.old)) ≡ false }
-    ensures counts_after { mapping_of (gathered result bases.new counts.new) ≡ mapping_with tags.now i (mapping_of (gathered p bases.old counts.old)) }
-    ensures dimmer_filled { DimmerFilled (gathered result bases.new counts.new) }
-{
-    let tag = tags[i];
-    let mut next = p;
-    if tag == 0x42 {
-        next.base = pair_at(tags, i + 1);
-        return next;
-    }
-    if tag == 0x43 {
-        let n = p.count as usize;
-        bases[n] = pair_at(tags, i + 1);
-        counts[n] = at(tags, i + 3);
-        next.count = p.count + 1;
-        return next;
-    }
-    next
-}
-
-// a refusal, with a mapping that says nothing
-fn refused(number: u8) -> Mapped
-    ensures { result ≡ record { number = number; dimmer = empty_dimmer } }
-{
-    let dimmer = no_dimmer();
-    Mapped { number, dimmer }
-}
-
-// The tags of a configuration in mode 4 or 6: the refusal, 13 or 14, of the first tag that is refused, or what they say.
+// The same as C has it: the number of the refusal, 13 or 14, with a mapping that says nothing, or 0 with the mapping.
 pub fn check(tags: &[u8]) -> Mapped
     ensures { result ≡ dimmer_mapped tags.now }
 {
-    let mut bases = [0u16; SUBSET_LIMIT];
-    let mut counts = [0u8; SUBSET_LIMIT];
-    let mut p = DimmerWalk { base: 0, count: 0 };
-    let mut i: usize = 0;
-    while i < tags.len() {
-        let number = tag_number(tags, i, p, &bases, &counts);
-        if number != 0 {
-            return refused(number);
-        }
-        p = with(tags, i, p, &mut bases, &mut counts);
-        i += 1 + (tags[i] % 16) as usize;
-    }
-    let dimmer = Dimmer {
-        bases,
-        counts,
-        base: p.base,
-        count: p.count,
-    };
-    Mapped { number: 0, dimmer }
+    Mapped::from(read(tags))
 }

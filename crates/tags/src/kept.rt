@@ -4,10 +4,9 @@ ghost use Rattle.std.specs.Prelude.{◌≡◌, ◌+◌, ◌*◌, ◌≤◌, leng
 ghost use Rattle.tags.specs.Layout.{sample_of, mapping_of, empty_layout, empty_dimmer};
 ghost use Rattle.tags.specs.Kept.{space_place, area_size, word_at, words_at, sample_in, mapping_in, sizes_fit, word_octets, octets_put};
 
-use super::levels::copy;
-use super::limits::{COLOUR_LIMIT, OCTET_LIMIT, SUBSET_LIMIT};
-use super::tag::word;
-use super::{Dimmer, Layout};
+use crate::levels::copy;
+use crate::limits::{COLOUR_LIMIT, OCTET_LIMIT, SUBSET_LIMIT};
+use crate::{Dimmer, Layout};
 
 // The octets of an area, and its places as specs/Kept.antt names them.
 pub const AREA: usize = BASE_PLACE + 2;
@@ -18,40 +17,47 @@ const COUNTS_PLACE: usize = SUBSET_LIMIT * 2;
 
 const BASE_PLACE: usize = SUBSET_LIMIT * 3;
 
-// ---- records that say nothing
+// ---- records that say nothing. By hand: their clauses name what callers cite, and a derive's says of each field that it has its default.
 
-// A layout that says nothing.
-pub fn no_layout() -> Layout
-    ensures { result ≡ empty_layout }
-{
-    Layout {
-        roles: [0u8; OCTET_LIMIT],
-        waves: [0u16; COLOUR_LIMIT],
-        space: 0,
-        width: 0,
-        colours: 0,
+impl Default for Layout {
+    // A layout that says nothing.
+    #[tactic(auto, unfolding(crate::specs::Layout::padded))]
+    fn default() -> Self
+        ensures { result ≡ empty_layout }
+    {
+        Layout {
+            roles: [0u8; OCTET_LIMIT],
+            waves: [0; COLOUR_LIMIT],
+            space: 0,
+            width: 0,
+            colours: 0,
+        }
     }
 }
 
-// A mapping that says nothing.
-pub fn no_dimmer() -> Dimmer
-    ensures { result ≡ empty_dimmer }
-{
-    Dimmer {
-        bases: [0u16; SUBSET_LIMIT],
-        counts: [0u8; SUBSET_LIMIT],
-        base: 0,
-        count: 0,
+impl Default for Dimmer {
+    // A mapping that says nothing.
+    #[tactic(auto, unfolding(crate::specs::Layout::padded))]
+    fn default() -> Self
+        ensures { result ≡ empty_dimmer }
+    {
+        Dimmer {
+            bases: [0; SUBSET_LIMIT],
+            counts: [0; SUBSET_LIMIT],
+            base: 0,
+            count: 0,
+        }
     }
 }
 
 // ---- sizes
 
 // Both sizes are within what an area holds. No branch, so that a loop over channels can test several at once.
+#[tactic(auto, unfolding(crate::specs::Kept::sizes_fit))]
 pub fn sizes_fit(size: u8, colours: u8) -> bool
     ensures { result ≡ sizes_fit size colours }
 {
-    (size as usize <= SUBSET_LIMIT) & (colours as usize <= COLOUR_LIMIT)
+    (usize::from(size) <= SUBSET_LIMIT) & (usize::from(colours) <= COLOUR_LIMIT)
 }
 
 // ---- out of an area
@@ -61,19 +67,21 @@ fn word_at(area: &[u8; AREA], from: usize) -> u16
     requires { from + 2 ≤ area_size }
     ensures { result ≡ word_at area.now from }
 {
-    word(area[from + 1], area[from])
+    u16::from_le_bytes([area[from], area[from + 1]])
 }
 
-// The words from `from` on.
-fn words_at(area: &[u8; AREA], from: usize, words: &mut [u16])
-    requires { from + length words.old * 2 ≤ area_size }
-    ensures { words.new ≡ words_at area.now from (length words.old) }
+// The N words from `from` on. Places are counted: what is written through a zip of `iter_mut`, or through `as_chunks_mut`, has no contract; over
+// `array::from_fn`, whose contract lets each call change the closure, the proof takes a lemma of its own, and did not close without.
+#[tactic(auto, using(crate::proofs::KeptSteps::words), unfolding(crate::specs::Kept::words_at))]
+fn words_at<const N: usize>(area: &[u8; AREA], from: usize) -> [u16; N]
+    requires { from + N * 2 ≤ area_size }
+    ensures { result ≡ words_at area.now from N }
 {
-    let mut i = 0;
-    while i < words.len() {
-        words[i] = word_at(area, from + i * 2);
-        i += 1;
+    let mut words = [0; N];
+    for (i, word) in words.iter_mut().enumerate() {
+        *word = word_at(area, from + i * 2);
     }
+    words
 }
 
 // The space modifier's word.
@@ -87,16 +95,12 @@ pub fn space_in(area: &[u8; AREA]) -> u16
 pub fn layout_in(size: u8, colours: u8, area: &[u8; AREA]) -> Layout
     ensures { sample_of result ≡ sample_in size colours area.now }
 {
-    let octets = &area[..];
-    let mut roles = [0u8; OCTET_LIMIT];
-    copy(&octets[0..OCTET_LIMIT], &mut roles, 0);
-    let mut waves = [0u16; COLOUR_LIMIT];
-    words_at(area, OCTET_LIMIT, &mut waves);
-    let space = word_at(area, SPACE_PLACE);
+    let mut roles = [0; OCTET_LIMIT];
+    roles.copy_from_slice(&area[..OCTET_LIMIT]);
     Layout {
         roles,
-        waves,
-        space,
+        waves: words_at(area, OCTET_LIMIT),
+        space: space_in(area),
         width: size,
         colours,
     }
@@ -106,33 +110,27 @@ pub fn layout_in(size: u8, colours: u8, area: &[u8; AREA]) -> Layout
 pub fn dimmer_in(size: u8, area: &[u8; AREA]) -> Dimmer
     ensures { mapping_of result ≡ mapping_in size area.now }
 {
-    let octets = &area[..];
-    let mut bases = [0u16; SUBSET_LIMIT];
-    words_at(area, 0, &mut bases);
-    let mut counts = [0u8; SUBSET_LIMIT];
-    copy(&octets[COUNTS_PLACE..BASE_PLACE], &mut counts, 0);
-    let base = word_at(area, BASE_PLACE);
+    let mut counts = [0; SUBSET_LIMIT];
+    counts.copy_from_slice(&area[COUNTS_PLACE..BASE_PLACE]);
     Dimmer {
-        bases,
+        bases: words_at(area, 0),
         counts,
-        base,
+        base: word_at(area, BASE_PLACE),
         count: size,
     }
 }
 
 // ---- into an area
 
-// The words, low octet first, put in from `from` on.
+// The words, low octet first, put in from `from` on. Places are counted, as in words_at.
 fn put_words(words: &[u16], area: &mut [u8], from: usize)
     requires { from + length words.now * 2 ≤ length area.old }
     ensures { area.new ≡ octets_put area.old from (word_octets words.now) }
 {
-    let mut i = 0;
-    while i < words.len() {
-        let word = words[i];
-        area[from + i * 2] = (word % 256) as u8;
-        area[from + i * 2 + 1] = (word / 256) as u8;
-        i += 1;
+    for (i, word) in words.iter().enumerate() {
+        let [low, high] = word.to_le_bytes();
+        area[from + i * 2] = low;
+        area[from + i * 2 + 1] = high;
     }
 }
 
@@ -141,12 +139,9 @@ pub fn keep_layout(layout: Layout, area: &mut [u8; AREA])
     ensures area_after { sample_in layout.width layout.colours area.new ≡ sample_of layout }
     ensures area_len { length area.new ≡ area_size }
 {
-    let roles = layout.roles;
-    copy(&roles, area, 0);
-    let waves = layout.waves;
-    put_words(&waves, area, OCTET_LIMIT);
-    let space = [layout.space];
-    put_words(&space, area, SPACE_PLACE);
+    area[..OCTET_LIMIT].copy_from_slice(&layout.roles);
+    put_words(&layout.waves, area, OCTET_LIMIT);
+    put_words(&[layout.space], area, SPACE_PLACE);
 }
 
 // The dimmer record put into an area, of which its count then reads it back.
@@ -154,10 +149,8 @@ pub fn keep_dimmer(dimmer: Dimmer, area: &mut [u8; AREA])
     ensures area_after { mapping_in dimmer.count area.new ≡ mapping_of dimmer }
     ensures area_len { length area.new ≡ area_size }
 {
-    let bases = dimmer.bases;
-    put_words(&bases, area, 0);
-    let counts = dimmer.counts;
-    copy(&counts, area, COUNTS_PLACE);
-    let base = [dimmer.base];
-    put_words(&base, area, BASE_PLACE);
+    put_words(&dimmer.bases, area, 0);
+    // `copy`: for a part between two constants in place of the call the proof did not close.
+    copy(&dimmer.counts, area, COUNTS_PLACE);
+    put_words(&[dimmer.base], area, BASE_PLACE);
 }

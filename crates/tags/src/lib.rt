@@ -5,15 +5,19 @@
 
 pub mod dictionary;
 pub mod dimming;
-mod gather;
 pub mod host;
 pub mod kept;
 pub mod levels;
 pub mod limits;
+pub mod refusal;
 pub mod rows;
 mod tag;
+mod walk;
 
 use limits::{COLOUR_LIMIT, OCTET_LIMIT, SUBSET_LIMIT};
+
+// These four structs are C's: exports take no enum, Option or Result, so numbers stand for refusals, 0 for none, and arrays have their lengths
+// beside them.
 
 // What a sample's octets are for, as a dictionary says: a role for each of `width` octets, the wavelengths of `colours` colours (0
 // where a prefix gives it) and the space modifier's word (0 if none). specs/Layout.antt says how it is read.
@@ -37,7 +41,7 @@ pub struct Dimmer {
     pub count: u8,
 }
 
-// A dictionary checked: the refusal, 8 to 12, with an empty layout, or 0 with the layout.
+// A dictionary checked: the refusal, 5, 6 or 8 to 12, with an empty layout, or 0 with the layout.
 #[repr(C)]
 #[derive(Clone, Copy)]
 pub struct Checked {

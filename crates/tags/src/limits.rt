@@ -10,11 +10,6 @@ pub const COLOUR_LIMIT: usize = samples::limits::COLOUR_LIMIT;
 // Numbers of a row, likewise.
 pub const ROW: usize = samples::limits::ROW;
 
-// The first two once more, as the dictionary walk counts octets and colours: in 8 bits.
-pub const MOST_OCTETS: u8 = OCTET_LIMIT as u8;
-
-pub const MOST_COLOURS: u8 = COLOUR_LIMIT as u8;
-
 // Subsets (43) of dimmer tags.
 pub const SUBSET_LIMIT: usize = 32;
 

@@ -1,161 +1,115 @@
-// One tag of a dictionary: a 16-bit word of four nibbles. Each function answers one definition of specs/Tag.antt.
-ghost use Rattle.std.specs.Prelude.{◌≡◌, ◌+◌, ◌*◌, ◌≤◌};
-ghost use Rattle.tags.specs.Limits.{colour_limit};
-ghost use Rattle.tags.specs.Tag.{takes_octet, defined_group, is_colour, is_single, is_signal, reserved_space, known_tag, refused_tag, skips, is_unknown_octet, slot_for};
+// One tag of a dictionary: a 16-bit word of four nibbles, read as what it asks for. specs/TagView.antt says which words a Tag is read from.
+ghost use Rattle.std.specs.Prelude.{◌≡◌, ◌<◌};
+ghost use Rattle.tags.specs.Tag.{takes_octet, reserved_space};
+ghost use Rattle.tags.specs.TagView.{slot_of, barred_by, Reads};
 
-// Which of the sixteen categories take an octet of the sample: 4 and 5 do.
+use super::refusal::Refusal;
+
+// Which of the sixteen categories take an octet of the sample: 4 and 5 do. An array of 16, as the project asks (docs/DECISIONS.md); with 0 and
+// 1 for false and true it is one line.
 const OCTETS: [u8; 16] = [0, 0, 0, 0, 1, 1, 0, 0, 0, 0, 0, 0, 0, 0, 0, 0];
 
-// Tags that more than one rule names. Both hints, 4100 and 4101, have HINTS above their last bit; space modifiers have SPACE as their
-// high octet.
-pub const PRECISION: u16 = 0x4010;
+// The signals that a dictionary has at most once, each the number of its slot of the row.
+#[derive(Clone, Copy, Debug, PartialEq, Eq)]
+pub enum Signal {
+    X = 0,
+    Y = 1,
+    Z = 2,
+    SecondX = 3,
+    SecondY = 4,
+    Intensity = 6,
+    Brush = 7,
+}
 
-pub const PREFIXED: u16 = 0x5000;
+impl Signal {
+    // A method: at a call, `slot()` says which number it is, and `u8::from` would not.
+    pub fn slot(self) -> u8
+        ensures value { result ≡ slot_of self }
+        ensures bound { result < 8 }
+    {
+        self as u8
+    }
+}
 
-pub const PREFIX: u16 = 0x5C00;
+#[derive(Clone, Copy, Debug, PartialEq, Eq)]
+pub enum HintFormat {
+    Scales,
+    ScalesAndShutter,
+}
 
-pub const HINTS: u16 = 0x2080;
+#[derive(Clone, Copy, Debug, PartialEq, Eq)]
+pub enum Tag {
+    // The next words, so many, are skipped unread: Void, or an unknown tag of its group.
+    Skip(u8),
+    // The space modifier, its word.
+    Space(u16),
+    Nop,
+    Precision,
+    Hint(HintFormat),
+    Signal(Signal),
+    // A colour of that wavelength in nm.
+    Colour(u16),
+    // The colour whose wavelength a prefix gives.
+    PrefixedColour,
+    Prefix,
+    // An unknown tag of another group, passed over.
+    Unknown,
+}
 
-pub const SPACE: u16 = 0x11;
-
-// Tags are big-endian.
-pub fn word(high: u8, low: u8) -> u16
-    ensures { result ≡ high * 256 + low }
-{
-    (high as u16) * 256 + low as u16
+impl Tag {
+    // The rest of check 9: a hint of format 1 is of mode 1 alone. A mode by its number, as in dictionary.rt.
+    pub fn is_barred_in(self, mode: u8) -> bool
+        ensures { result ≡ barred_by self mode }
+    {
+        mode != 1 && self == Tag::Hint(HintFormat::ScalesAndShutter)
+    }
 }
 
 // The category is the first nibble.
-pub fn takes_octet(w: u16) -> bool
-    ensures { result ≡ takes_octet w }
+pub fn takes_octet(word: u16) -> bool
+    ensures { result ≡ takes_octet word }
 {
-    let category = (w / 4096) as usize;
-    OCTETS[category] == 1
-}
-
-// A group is the first two nibbles, category and subcategory.
-pub fn defined_group(w: u16) -> bool
-    ensures { result ≡ defined_group w }
-{
-    let g = w / 256;
-    (g == 0x00)
-        | (g == 0x10)
-        | (g == 0x11)
-        | (g == 0x40)
-        | (g == 0x41)
-        | (g == 0x42)
-        | ((0x50 <= g) & (g <= 0x53))
-        | (g == 0x5C)
-}
-
-pub fn is_colour(w: u16) -> bool
-    ensures { result ≡ is_colour w }
-{
-    (0x5000 <= w) & (w < 0x5400)
-}
-
-// The signals that a dictionary has at most once.
-pub fn is_single(w: u16) -> bool
-    ensures { result ≡ is_single w }
-{
-    (w == 0x4200)
-        | (w == 0x4210)
-        | (w == 0x4220)
-        | (w == 0x4201)
-        | (w == 0x4211)
-        | (w == 0x5C10)
-        | (w == 0x5C20)
-}
-
-// The signals that have a slot of the row, and so may have a precision.
-pub fn is_signal(w: u16) -> bool
-    ensures { result ≡ is_signal w }
-{
-    is_single(w) | is_colour(w) | (w == PREFIX)
+    OCTETS[usize::from(word / 4096)] == 1
 }
 
 // GLIN, CBAL and CTIM are the first, third and fourth pair of bits of the low octet; CLIN, the second, has no reserved value.
-pub fn reserved_space(w: u16) -> bool
-    ensures { result ≡ reserved_space w }
+#[tactic(auto, unfolding(crate::specs::Tag::reserved_space))]
+fn reserves_space(word: u16) -> bool
+    ensures { result ≡ reserved_space word }
 {
-    (w / 64 % 4 == 2) | (w / 4 % 4 == 2) | (w % 4 == 2)
+    word / 64 % 4 == 2 || word / 4 % 4 == 2 || word % 4 == 2
 }
 
-// The tags that document 01 lists, whatever the mode and the space values.
-pub fn known_tag(w: u16) -> bool
-    ensures { result ≡ known_tag w }
-{
-    (w < 16)
-        | (w / 256 == SPACE)
-        | (w == 0x4000)
-        | (w == PRECISION)
-        | (w / 2 == HINTS)
-        | is_single(w)
-        | is_colour(w)
-        | (w == PREFIX)
-}
+// Checks 8 and 9, but for 4101, which one mode alone refuses.
+impl TryFrom<u16> for Tag {
+    type Error = Refusal;
 
-// Check 9: Break, hint formats beyond 1, 4101 in another mode than 1, reserved space values. Every other tag of a defined group is known or
-// passed over.
-pub fn refused_tag(mode: u8, w: u16) -> bool
-    ensures { result ≡ refused_tag mode w }
-{
-    (w / 16 == 0x100)
-        | ((w / 16 == 0x410) & !(w / 2 == HINTS))
-        | ((w == 0x4101) & !(mode == 1))
-        | ((w / 256 == SPACE) & reserved_space(w))
-}
+    ghost try_from_gives = { Reads };
 
-// An unknown tag whose octet is ignored, and with it that of a precision directly behind it, of those that 8 and 9 let through. Of the tags
-// that are asked about precision is the most frequent, so it is answered first.
-pub fn is_unknown_octet(w: u16) -> bool
-    ensures { result ≡ is_unknown_octet w }
-{
-    if w == PRECISION {
-        return false;
+    #[tactic(auto, using(std::proofs::lemmas::Bool::Decides::nat_tests), unfolding(crate::specs::Tag::defined_group, crate::specs::Tag::known_tag, crate::specs::Tag::is_single, crate::specs::Tag::reserved_space))]
+    fn try_from(word: u16) -> Result<Tag, Refusal> {
+        match word {
+            0x0000..=0x00FF => Ok(Tag::Skip((word % 16) as u8)),
+            0x1000..=0x100F | 0x4102..=0x410F => Err(Refusal::Barred),
+            0x1010..=0x10FF => Ok(Tag::Unknown),
+            0x1100..=0x11FF if reserves_space(word) => Err(Refusal::Barred),
+            0x1100..=0x11FF => Ok(Tag::Space(word)),
+            0x4000 => Ok(Tag::Nop),
+            0x4010 => Ok(Tag::Precision),
+            0x4100 => Ok(Tag::Hint(HintFormat::Scales)),
+            0x4101 => Ok(Tag::Hint(HintFormat::ScalesAndShutter)),
+            0x4200 => Ok(Tag::Signal(Signal::X)),
+            0x4201 => Ok(Tag::Signal(Signal::SecondX)),
+            0x4210 => Ok(Tag::Signal(Signal::Y)),
+            0x4211 => Ok(Tag::Signal(Signal::SecondY)),
+            0x4220 => Ok(Tag::Signal(Signal::Z)),
+            0x5000 => Ok(Tag::PrefixedColour),
+            0x5001..=0x53FF => Ok(Tag::Colour(word % 1024)),
+            0x5C00 => Ok(Tag::Prefix),
+            0x5C10 => Ok(Tag::Signal(Signal::Intensity)),
+            0x5C20 => Ok(Tag::Signal(Signal::Brush)),
+            0x4000..=0x42FF | 0x5C00..=0x5CFF => Ok(Tag::Unknown),
+            _ => Err(Refusal::Undefined),
+        }
     }
-    takes_octet(w) & !known_tag(w)
-}
-
-// The row's slot of a signal, where the dictionary has `colours` colours so far.
-pub fn slot_for(w: u16, colours: u8) -> u8
-    requires { colours ≤ colour_limit }
-    ensures value { result ≡ slot_for w colours }
-    ensures upper_bound { result ≤ 24 }
-{
-    if w == 0x4200 {
-        return 0;
-    }
-    if w == 0x4210 {
-        return 1;
-    }
-    if w == 0x4220 {
-        return 2;
-    }
-    if w == 0x4201 {
-        return 3;
-    }
-    if w == 0x4211 {
-        return 4;
-    }
-    if w == 0x5C10 {
-        return 6;
-    }
-    if w == 0x5C20 {
-        return 7;
-    }
-    if w == PREFIX {
-        return colours + 16;
-    }
-    colours + 8
-}
-
-// How many words after it a tag of group 0.0 skips, a Void or an unknown one: its parameter. A tag of another group skips none.
-pub fn skipped_by(w: u16) -> u16
-    ensures { result ≡ skips w }
-{
-    if w / 256 == 0x00 {
-        return w % 16;
-    }
-    0
 }

@@ -1,4 +1,5 @@
 // The archive of the tag layer for C hosts. Each call is that of the same name in crates/tags/src/host.rt, with its whole promise.
+// Written again: an archive for C is a crate above its library, and exports its own functions alone.
 #![tactic(auto)]
 
 ghost use Rattle.std.specs.Prelude.{◌≡◌, cond, length};
