@@ -1,2 +1,5 @@
 pub mod DecimalLaws
 pub mod FrontLaws
+pub mod LineLaws
+pub mod ReadingLaws
+pub mod RunLaws

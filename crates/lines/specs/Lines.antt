@@ -1,8 +1,11 @@
 -- The lines of the listing (document 01, "Calls and layers").
-use Rattle.std.specs.Prelude.{ℕ, cond, List, [], ◌∷◌, eqb}
+use Rattle.std.specs.Prelude.{ℕ, cond, List, [], ◌∷◌, ◌++◌, eqb, codes}
 use Rattle.lines.specs.Text.{decimal, line_of}
 use Rattle.receiver.specs.declared.Reply.{Reply}
 use Rattle.receiver.specs.declared.Readings.{Readings}
+use Rattle.std.specs.Fmt.{decimal as printed}
+use Rattle.lines.specs.declared.Line.{Line}
+use Rattle.lines.specs.declared.Line.TheVariants.{Answer, Cut, Meters}
 
 -- "channel type number points lit", all five from the reply
 abbrev pub reply_line : Reply → List ℕ
@@ -17,3 +20,11 @@ cut_line count = cond (eqb count 0) [] (line_of (99 ∷ 117 ∷ 116 ∷ []) (cou
 abbrev pub meters_line : Readings → List ℕ
 meters_line r =
     line_of (109 ∷ 101 ∷ 116 ∷ 101 ∷ 114 ∷ 115 ∷ []) (r.lit_time ∷ r.points ∷ r.lit_points ∷ [])
+
+-- what `{}` writes of a line, without its end
+abbrev pub text_of : Line → List ℕ
+text_of (Answer r) =
+    printed r.channel.0 ++ codes " " ++ printed r.chunk_type ++ codes " " ++ printed r.number ++ codes " " ++ printed r.points
+    ++ codes " " ++ printed r.lit_points
+text_of (Cut count) = codes "cut " ++ printed count
+text_of (Meters r) = codes "meters " ++ printed r.lit_time ++ codes " " ++ printed r.points ++ codes " " ++ printed r.lit_points

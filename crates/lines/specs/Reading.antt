@@ -1,17 +1,13 @@
--- What the listing keeps of an input that it reads bit by bit: the octets read and not yet listed, a part of a buffer. No contract says
--- which octets a read gives, so these say what is done with those that came (document 01, "Calls and layers").
-use Rattle.std.specs.Prelude.{ℕ, ◌+◌, ◌-◌, ◌≤◌, min, ◌≡◌, Bool, true, ◌&&◌, ◌||◌, List, ◌++◌, length, take, drop, ltb, leb, eqb}
+-- What the listing reads: octets that a reader gave, none lost, and what stands at the front of them.
+use Rattle.std.specs.Prelude.{ℕ, ◌+◌, ◌-◌, ◌<◌, min, ◌≡◌, Bool, false, ◌&&◌, ◌||◌, List, ◌++◌, length, take, drop, Option, ltb, leb, eqb}
+use Rattle.std.specs.Io.KnownBytes.{Consumes}
 use Rattle.receiver.specs.Stream.{entry_of}
-use Rattle.lines.specs.declared.reading.Unread.{Unread}
-use Rattle.lines.specs.declared.reading.More.{More}
+use Rattle.lines.specs.declared.reading.Next.{Next}
+use Rattle.lines.specs.declared.reading.Next.TheVariants.{Message, Cut, End}
 
 -- the octets of a buffer from one place up to another
 abbrev pub part : ℕ → ℕ → List ℕ → List ℕ
 part from end octets = take (end - from) (drop from octets)
-
--- the unread octets, a part of the buffer
-abbrev pub unread : Unread → List ℕ → List ℕ
-unread u octets = part u.from u.end octets
 
 -- the part at the front, and the rest as it was
 abbrev pub moved : ℕ → ℕ → List ℕ → List ℕ
@@ -25,25 +21,17 @@ most = 65536
 abbrev pub stops : ℕ → ℕ → Bool → Bool
 stops size count ended = ltb 0 size || ended || leb most count
 
--- the unread octets as a call leaves them that reads on: with the size of the message at their front, 0 where none is whole and no
--- more was to be read
-pub record Ready (u : Unread) (octets : List ℕ) : Type 0 where
-  pub ordered : u.from + u.size ≤ u.end
-  pub within : u.end ≤ length octets
-  pub size : u.size ≡ entry_of (unread u octets)
-  pub stopped : stops u.size (u.end - u.from) u.ended ≡ true
+-- octets have gained those that a reader gave between two states, of which it has left the known bytes
+pub record Gained (left₀ left₁ : Option (List ℕ)) (octets₀ octets₁ : List ℕ) : Type 0 where
+  pub more : List ℕ
+  pub read : Consumes left₀ left₁ more
+  pub after : octets₁ ≡ octets₀ ++ more
 
--- what one read has done after the first kept octets of a buffer: these are as they were, others may follow up to a place, and the input
--- has ended where none does
-pub record Grown (kept : ℕ) (octets₀ : List ℕ) (more : More) (octets₁ : List ℕ) : Type 0 where
-  pub longer : kept ≤ more.end
-  pub within : more.end ≤ length octets₁
-  pub ended : more.ended ≡ eqb more.end kept
-  pub first : take kept octets₁ ≡ take kept octets₀
-
--- octets that were unread before are the first of the unread octets now: none is lost
-pub record Kept (before : List ℕ) (u : Unread) (octets : List ℕ) : Type 0 where
-  pub first : take (length before) (unread u octets) ≡ before
+-- what stands at the front of octets: they are a whole message; no message stands there, whatever follows; or none does
+abbrev pub Stands : Next → List ℕ → Type 0
+Stands Message octets = (0 < entry_of octets) × (entry_of octets ≡ length octets)
+Stands Cut octets = (more : List ℕ) → entry_of (octets ++ more) ≡ 0
+Stands End octets = entry_of octets ≡ 0
 
 -- the largest number of 64 bits
 abbrev pub largest : ℕ
@@ -61,3 +49,9 @@ counted_all count ended = ended || eqb count largest
 -- run ends after 2^64 - 1 messages too.
 abbrev pub goes_on : ℕ → ℕ → Bool
 goes_on size messages = ltb 0 size && ltb messages largest
+
+-- the same of what stands at the front of the input
+abbrev pub lists_on : Next → ℕ → Bool
+lists_on Message messages = ltb messages largest
+lists_on Cut messages = false
+lists_on End messages = false

@@ -30,10 +30,8 @@ fn numbers(ns: &[u64], out: &mut [u8]) -> usize
     ensures { Front (spaced ns.now) out.old result out.new }
 {
     let mut at: usize = 0;
-    let mut i: usize = 0;
-    while i < ns.len() {
-        at += number(ns[i], &mut out[at..]);
-        i += 1;
+    for n in ns {
+        at += number(*n, &mut out[at..]);
     }
     at
 }

@@ -1,2 +1,2 @@
 pub mod ReadingLaws
-pub mod RunningLaws
+pub mod ProgressLaws

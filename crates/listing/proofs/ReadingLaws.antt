@@ -1,4 +1,4 @@
--- Laws of the unread octets while more are read.
+-- Laws of octets that lie in a buffer while more are read behind them.
 use Prim.Native.Nat.{ℕ, ◌-◌, ◌<◌, ◌≤◌}
 use native.Mathlib.Nat.{sub-zero}
 use native.Mathlib.Omega.{arith}

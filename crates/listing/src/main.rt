@@ -1,189 +1,224 @@
-// The listing program: reads messages end to end from standard input, prints a line for each, and then the meters. The lines, and what
-// becomes of octets once they are read, are the crate lines'; here are the calls that read and write.
+// The listing program: reads messages end to end from standard input, prints a line for each, and then the meters. The lines, and how a
+// message is read, are the crate lines'.
 #![tactic(auto)]
 
+mod host;
 mod input;
 mod output;
 
-ghost use Rattle.std.specs.Prelude.{◌≡◌, false, ◌+◌, ◌<◌, ◌≤◌, length};
-ghost use Rattle.receiver.specs.Slices.{slices, lent, lengths};
+ghost use Rattle.std.specs.Prelude.{◌≡◌, ℕ, false, ◌≤◌, [], vec_capacity, Ok, IfOk, OnOk, MatchResult};
+ghost use Rattle.std.specs.Io.Buffered.{reader_buffer, reader_remaining, writer_buffer};
+ghost use Rattle.receiver.specs.Slices.{lent, lengths};
 ghost use Rattle.receiver.specs.Meters.{sums};
-ghost use Rattle.receiver.specs.Record.{record_in};
 ghost use Rattle.receiver.specs.Contract.{outcome, Started, Answered};
-ghost use Rattle.lines.specs.Text.{room, Added};
+ghost use Rattle.receiver.specs.Stream.{entry_of};
+ghost use Rattle.receiver.specs.declared.Reply.{Reply};
 ghost use Rattle.lines.specs.Lines.{reply_line};
-ghost use Rattle.lines.specs.Reading.{unread, most, Ready, goes_on};
-ghost use Rattle.lines.specs.Listing.{ListedTo};
+ghost use Rattle.lines.specs.Reading.{most, Stands, lists_on};
+ghost use Rattle.lines.specs.declared.reading.Next.TheVariants.{End};
+ghost use Rattle.listing.specs.Hosting.{slices_of};
+ghost use Rattle.listing.specs.Writing.{Puts};
+ghost use Rattle.listing.specs.Progress.{Progress, AllRead, AllListed, Listed};
 
-use input::{cut_count, read_on};
+use host::Host;
+use input::count_rest;
 use lines::reading;
-use lines::reading::Unread;
-use output::{Output, flush, flush_to_wait, make_room, nothing_put, put_cut, put_meters};
-use receiver::place::{
-    CHANNEL_OCTETS, GATHERED_COUNT, METER_COUNT, mewkoast_begin_on, mewkoast_offer_on,
-    mewkoast_readings_on,
-};
-use receiver::{Readings, Reply};
-use std::io::{Eprint, Read, Write};
+use lines::reading::Next;
+use output::Output;
+use receiver::stream;
+use std::alloc::Global;
+use std::io;
+use std::io::{BufReader, BufWriter, Eprint, Read, Write};
+use std::process::ExitCode;
 
-// How many numbers are lent for the rows of a message.
-const NUMBERS: usize = 12000;
+// How many octets are read at once.
+const INPUT: usize = 131072;
 
-// How many octets are lent for its levels.
-const LEVELS: usize = 1024;
+// How many octets of lines are collected.
+const OUTPUT: usize = 65536;
 
-// How many octets are lent for a frame that comes in fragments, one slice for the whole run.
-const ASSEMBLY: usize = 65536;
-
-// What the listing of the messages leaves: the readings, the lines not yet written out, the octets not listed, and how many messages
-// there were.
-#[derive(Clone, Copy)]
-struct Listed {
-    readings: Readings,
-    output: Output,
-    unread: Unread,
-    messages: u64,
+// The reader of a listing, and the message read last, in a place with room for any.
+#[derive(Drop)]
+struct Source<R: Read> {
+    input: BufReader<R>,
+    message: Vec<u8>,
+    ghost room: { most ≤ vec_capacity message },
 }
 
-// Starts a receiver with three readings of 0 on the record that is lent, as the three arrays whose types have its lengths.
-fn start(
-    channels: &mut [u8; CHANNEL_OCTETS],
-    meters: &mut [u64; METER_COUNT],
-    gathered: &mut [u32; GATHERED_COUNT],
-) -> Reply
-    ensures { Started (sums 0 0 0) (outcome (record_in channels.new meters.new gathered.new) result) }
+// Offers a message to the host's receiver, and adds the line of the reply.
+fn list_message<W: Write + Drop, E: Eprint>(message: &[u8], host: &mut Host, out: &mut Output<W, E>)
+    ensures lent { lengths (slices_of host.old) ≡ lent 12000 1024 65536 }
+    ensures answered { (reply : Reply) × Answered host.old.receiver message.now (slices_of host.old) (outcome host.new.receiver reply) (slices_of host.new) × Puts W.contents out.old (reply_line reply) out.new }
 {
-    mewkoast_begin_on(channels, meters, gathered, 0, 0, 0)
+    let reply = host.offer(message);
+    out.put_answer(reply);
 }
 
-// Offers a message to the receiver on the lent record, with 12,000 numbers, 1,024 octets and the assembly slice lent too, and adds the line
-// of the reply at a place of out, which is then the place after the line.
-fn list_message(
-    channels: &mut [u8; CHANNEL_OCTETS],
-    meters: &mut [u64; METER_COUNT],
-    gathered: &mut [u32; GATHERED_COUNT],
-    message: &[u8],
-    rows: &mut [i32; NUMBERS],
-    levels: &mut [u8; LEVELS],
-    assembly: &mut [u8; ASSEMBLY],
-    at: &mut usize,
-    out: &mut [u8],
-) -> Reply
-    requires { at.old + room ≤ length out.old }
-    ensures assembly_value { lengths (slices rows.old levels.old assembly.old) ≡ lent 12000 1024 65536 }
-    ensures answered { Answered (record_in channels.old meters.old gathered.old) message.now (slices rows.old levels.old assembly.old) (outcome (record_in channels.new meters.new gathered.new) result) (slices rows.new levels.new assembly.new) }
-    ensures added { Added (reply_line result) at.old out.old at.new out.new }
+// Writes the lines out before a read that may wait: where the next message is not there whole.
+fn flush_to_wait<R: Read, W: Write + Drop, E: Eprint>(input: &BufReader<R>, out: &mut Output<W, E>)
+    ensures put { Puts W.contents out.old [] out.new }
+    ensures empty { entry_of (reader_buffer input.now) ≡ 0 → OnOk out.new.written (writer_buffer out.new.lines ≡ []) }
 {
-    let reply = mewkoast_offer_on(channels, meters, gathered, message, rows, levels, assembly);
-    *at = lines::reply_line(reply, *at, out);
-    reply
-}
-
-// Lists the messages, from a receiver that is started at 0 0 0 on the lent record, as far as whole ones come.
-fn list_messages<R: Read, W: Write, E: Eprint>(
-    input: &mut R,
-    to: &mut W,
-    told: &E,
-    channels: &mut [u8; CHANNEL_OCTETS],
-    meters: &mut [u64; METER_COUNT],
-    gathered: &mut [u32; GATHERED_COUNT],
-    octets: &mut [u8],
-    spare: &mut [u8],
-    rows: &mut [i32; NUMBERS],
-    levels: &mut [u8; LEVELS],
-    assembly: &mut [u8; ASSEMBLY],
-    out: &mut [u8],
-) -> Listed
-    requires most_in_bounds { most < length octets.old }
-    requires most_in_bounds_2 { most ≤ length spare.old }
-    requires room_in_bounds { room ≤ length out.old }
-    ensures ready { Ready result.unread octets.new }
-    ensures messages_value { goes_on result.unread.size result.messages ≡ false }
-    ensures listed_to { ListedTo result.messages result.readings (unread result.unread octets.new) }
-    ensures at_in_bounds { result.output.at ≤ length out.new }
-{
-    start(channels, meters, gathered);
-    let mut output = nothing_put();
-    let mut unread = read_on(input, told, 0, 0, octets, spare);
-    let mut messages: u64 = 0;
-    while reading::goes_on(unread.size, messages) {
-        output = make_room(to, told, output, out);
-        let from = unread.from;
-        let next = from + unread.size;
-        let message = &octets[from..next];
-        list_message(
-            channels,
-            meters,
-            gathered,
-            message,
-            rows,
-            levels,
-            assembly,
-            &mut output.at,
-            out,
-        );
-        output = flush_to_wait(to, told, next, unread.end, octets, output, out);
-        unread = read_on(input, told, next, unread.end, octets, spare);
-        messages += 1;
+    if stream::entry(input.buffer()) == 0 {
+        out.flush();
     }
-    Listed {
-        readings: mewkoast_readings_on(meters),
-        output,
-        unread,
-        messages,
+}
+
+// Lists the messages, as far as whole ones come. What is read of the next stays in the place for a message.
+fn list_messages<R: Read, W: Write + Drop, E: Eprint>(
+    source: &mut Source<R>,
+    host: &mut Host,
+    out: &mut Output<W, E>,
+) -> io::Result<Next>
+    requires started { (reply : Reply) × Started (sums 0 0 0) (outcome host.old.receiver reply) }
+    ensures { (count : ℕ) × Progress (reader_remaining R.remaining source.old.input) (reader_remaining R.remaining source.new.input) (λ text. Puts W.contents out.old text out.new) host.new.receiver host.new.assembly source.new.message.items count (result ≡ Ok End) × MatchResult result (λ next. Stands next source.new.message.items × (lists_on next count ≡ false)) (λ _. entry_of source.new.message.items ≡ 0) }
+{
+    let mut messages: u64 = 0;
+    let mut next = reading::read_message(&mut source.input, &mut source.message)?;
+    while reading::lists_on(next, messages) {
+        list_message(source.message.as_slice(), host, out);
+        flush_to_wait(&source.input, out);
+        messages += 1;
+        next = reading::read_message(&mut source.input, &mut source.message)?;
+    }
+    Ok(next)
+}
+
+// Lists the messages, and counts the octets behind them.
+fn list_input<R: Read, W: Write + Drop, E: Eprint>(
+    source: &mut Source<R>,
+    host: &mut Host,
+    out: &mut Output<W, E>,
+) -> (u64, io::Result<()>)
+    requires started { (reply : Reply) × Started (sums 0 0 0) (outcome host.old.receiver reply) }
+    ensures { AllRead (reader_remaining R.remaining source.old.input) (reader_remaining R.remaining source.new.input) (λ text. Puts W.contents out.old text out.new) host.new.receiver result.0 result.1 }
+{
+    match list_messages(source, host, out) {
+        Ok(Next::End) => (source.message.len() as u64, Ok(())),
+        Ok(_) => count_rest(&mut source.input, source.message.len()),
+        Err(e) => (source.message.len() as u64, Err(e)),
     }
 }
 
 // Lists the messages, then what is cut, then the meters, and writes all out.
-fn list<R: Read, W: Write, E: Eprint>(
-    input: &mut R,
-    to: &mut W,
-    told: &E,
-    channels: &mut [u8; CHANNEL_OCTETS],
-    meters: &mut [u64; METER_COUNT],
-    gathered: &mut [u32; GATHERED_COUNT],
-    octets: &mut [u8],
-    spare: &mut [u8],
-    rows: &mut [i32; NUMBERS],
-    levels: &mut [u8; LEVELS],
-    assembly: &mut [u8; ASSEMBLY],
-    out: &mut [u8],
-)
-    requires most_in_bounds { most < length octets.old }
-    requires most_in_bounds_2 { most ≤ length spare.old }
-    requires room_in_bounds { room ≤ length out.old }
+fn list<R: Read, W: Write + Drop, E: Eprint>(
+    source: &mut Source<R>,
+    out: &mut Output<W, E>,
+) -> io::Result<()>
+    ensures listed { AllListed (reader_remaining R.remaining source.old.input) (reader_remaining R.remaining source.new.input) (λ text. Puts W.contents out.old text out.new) result }
+    ensures written { OnOk out.new.written (writer_buffer out.new.lines ≡ []) }
 {
-    let listed = list_messages(
-        input, to, told, channels, meters, gathered, octets, spare, rows, levels, assembly, out,
-    );
-    let rest = cut_count(input, told, listed.unread, octets);
-    let with_cut = put_cut(to, told, rest.count, listed.output, out);
-    let with_meters = put_meters(to, told, listed.readings, with_cut, out);
-    flush(to, told, with_meters, out);
+    let mut host = Host::start();
+    let (cut, read) = list_input(source, &mut host, out);
+    if read.is_err() {
+        out.tell("listing: standard input cannot be read");
+    }
+    out.put_cut(cut);
+    out.put_meters(host.readings());
+    out.flush();
+    read
 }
 
-fn main(rt: HostRuntime) {
-    let mut channels = [0u8; CHANNEL_OCTETS];
-    let mut meters = [0u64; METER_COUNT];
-    let mut gathered = [0u32; GATHERED_COUNT];
-    let mut octets = [0u8; 131072];
-    let mut spare = [0u8; 65536];
-    let mut rows = [0i32; NUMBERS];
-    let mut levels = [0u8; LEVELS];
-    let mut assembly = [0u8; ASSEMBLY];
-    let mut out = [0u8; 65536];
-    list(
-        &mut rt.stdin(),
-        &mut rt.stdout(),
-        &rt,
-        &mut channels,
-        &mut meters,
-        &mut gathered,
-        &mut octets,
-        &mut spare,
-        &mut rows,
-        &mut levels,
-        &mut assembly,
-        &mut out,
-    );
+// The reader and the writer of a listing, and what has become of the reads and the writes.
+#[derive(Drop)]
+struct Done<R: Read, W> {
+    from: BufReader<R>,
+    to: W,
+    read: io::Result<()>,
+    written: io::Result<()>,
+}
+
+// Lists an input, unless there is no memory. What is needed of it is taken before the first read.
+fn run<R: Read + Drop, W: Write + Drop, E: Eprint>(
+    alloc: Global,
+    input: R,
+    to: W,
+    told: &E,
+) -> io::Result<Done<R, W>>
+    ensures { IfOk result (λ done. Listed (R.remaining input) (reader_remaining R.remaining done.from) (W.contents to) (W.contents done.to) done.read done.written) }
+{
+    let input = BufReader::with_capacity(alloc, INPUT, input)?;
+    let message = Vec::with_capacity(alloc, reading::MOST)?;
+    let mut source = Source { input, message };
+    let mut out = Output::new(BufWriter::with_capacity(alloc, OUTPUT, to)?, told);
+    let read = list(&mut source, &mut out);
+    let (to, written) = out.finish();
+    Ok(Done {
+        from: source.input,
+        to,
+        read,
+        written,
+    })
+}
+
+// A read or a write that fails is told, and leaves the status as it is.
+fn main(rt: HostRuntime) -> ExitCode {
+    match run(rt.alloc(), rt.stdin(), rt.stdout(), &rt) {
+        Ok(_) => ExitCode::SUCCESS,
+        Err(_) => {
+            let _ = rt.eprintln("listing: no memory");
+            ExitCode::FAILURE
+        }
+    }
+}
+
+#[cfg(test)]
+mod tests {
+    use super::*;
+    use std::test::Fail;
+
+    // A message to a closed channel, and an octet of the next.
+    const OCTETS: [u8; 9] = [0, 8, 0x81, 0, 0, 0, 0, 0, 0];
+
+    const LISTING: &[u8] = b"0 0 16 0 0\ncut 1\nmeters 0 0 0\n";
+
+    // Gives its octets, and then fails.
+    #[derive(Drop)]
+    struct Breaks<'a>(&'a [u8]);
+
+    impl Read for Breaks<'_> {
+        fn read(&mut self, buf: &mut [u8]) -> io::Result<usize> {
+            if self.0.is_empty() {
+                return Err(io::ErrorKind::Other.into());
+            }
+            self.0.read(buf)
+        }
+    }
+
+    // Takes nothing.
+    #[derive(Drop)]
+    struct Full;
+
+    impl Write for Full {
+        fn write(&mut self, _buf: &[u8]) -> io::Result<usize> {
+            Err(io::ErrorKind::StorageFull.into())
+        }
+
+        fn flush(&mut self) -> io::Result<()> {
+            Ok(())
+        }
+    }
+
+    #[test]
+    fn lists_a_message_and_a_cut(rt: HostRuntime) -> Result<(), Fail> {
+        let done = run(rt.alloc(), OCTETS.as_slice(), Vec::new(rt.alloc()), &rt)?;
+        assert_eq!(rt; done.to.as_slice(), LISTING);
+        assert!(rt; done.read.is_ok() && done.written.is_ok());
+        Ok(())
+    }
+
+    #[test]
+    fn ends_where_a_read_fails(rt: HostRuntime) -> Result<(), Fail> {
+        let done = run(rt.alloc(), Breaks(&OCTETS), Vec::new(rt.alloc()), &rt)?;
+        assert_eq!(rt; done.to.as_slice(), LISTING);
+        assert!(rt; done.read.is_err());
+        Ok(())
+    }
+
+    #[test]
+    fn reads_on_where_a_write_fails(rt: HostRuntime) -> Result<(), Fail> {
+        let done = run(rt.alloc(), OCTETS.as_slice(), Full, &rt)?;
+        assert!(rt; done.read.is_ok() && done.written.is_err());
+        Ok(())
+    }
 }

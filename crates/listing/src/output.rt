@@ -1,131 +1,125 @@
 // Writing to standard output: lines are collected in a buffer, and written out where it is full, before a read that may wait, and at the
 // end.
-ghost use Rattle.std.specs.Prelude.{◌≡◌, true, cond, ltb, ◌+◌, ◌≤◌, length};
-ghost use Rattle.lines.specs.Text.{room, place_for, Added};
-ghost use Rattle.lines.specs.Lines.{cut_line, meters_line};
-ghost use Rattle.lines.specs.Reading.{part};
-ghost use Rattle.receiver.specs.Stream.{entry_of};
+ghost use Rattle.std.specs.Prelude.{◌≡◌, [], ◌∷◌, ◌++◌, ◌+◌, ◌≤◌, ◌⊎◌, length, Ok, OnOk};
+ghost use Rattle.std.specs.Io.Buffered.{writer_buffer, writer_capacity, writer_inner};
+ghost use Rattle.lines.specs.Text.{room, place_for};
+ghost use Rattle.lines.specs.Lines.{text_of, reply_line, cut_line, meters_line};
+ghost use Rattle.listing.specs.Writing.{Puts};
 
-use receiver::{Readings, stream};
-use std::io::{Eprint, Write};
+use lines::Line;
+use receiver::{Readings, Reply};
+use std::io;
+use std::io::{BufWriter, Eprint, Write};
 
-// The lines collected for the output: the place in a buffer up to which they stand, and whether a write has failed.
-#[derive(Clone, Copy)]
-pub(crate) struct Output {
-    pub at: usize,
-    pub failed: bool,
+// The lines collected for the output, whether all that came before them was written, and where a failure is told.
+pub(crate) struct Output<'a, W: Write + Drop, E: Eprint> {
+    lines: BufWriter<W>,
+    written: io::Result<()>,
+    told: &'a E,
 }
 
-// Nothing collected yet.
-pub(crate) fn nothing_put() -> Output
-    ensures { result.at ≡ 0 }
-{
-    Output {
-        at: 0,
-        failed: false,
+impl<'a, W: Write + Drop, E: Eprint> Output<'a, W, E> {
+    // An output that collects lines in a buffer with room for any of them.
+    pub(crate) fn new(lines: BufWriter<W>, told: &'a E) -> Output<'a, W, E>
+        requires { room ≤ writer_capacity lines }
+        ensures lines { result.lines ≡ lines }
+        ensures written { result.written ≡ Ok tt }
+    {
+        Output {
+            lines,
+            written: Ok(()),
+            told,
+        }
     }
-}
 
-// Writes out the lines collected in out. Where a write fails, that is told on standard error once, and no more is written.
-pub(crate) fn flush<W: Write, E: Eprint>(to: &mut W, told: &E, output: Output, out: &[u8]) -> Output
-    requires { output.at ≤ length out.now }
-    ensures at_value { result.at ≡ 0 }
-    ensures failed_value { output.failed ≡ true → result.failed ≡ true }
-{
-    if output.failed {
-        return Output {
-            at: 0,
-            failed: true,
-        };
+    // Writes the lines out that leave too little room for another, so that no line is split over two writes.
+    fn make_room(&mut self)
+        ensures put { Puts W.contents self.old [] self.new }
+        ensures place { OnOk self.new.written (length (writer_buffer self.new.lines) ≡ place_for (length (writer_buffer self.old.lines)) (writer_capacity self.old.lines)) }
+        ensures room { OnOk self.new.written ((length (writer_buffer self.new.lines) + room ≤ writer_capacity self.new.lines) ⊎ (writer_buffer self.new.lines ≡ [])) }
+    {
+        if self.lines.capacity() - self.lines.buffer().len() < lines::ROOM {
+            self.flush();
+        }
     }
-    let at = output.at;
-    let written = to.write_all(&out[0..at]).is_ok();
-    if !written {
-        let _ = told.eprintln("listing: standard output cannot be written");
-    }
-    Output {
-        at: 0,
-        failed: !written,
-    }
-}
 
-// Writes the collected lines out before a read that may wait: where the next message is not there whole.
-pub(crate) fn flush_to_wait<W: Write, E: Eprint>(
-    to: &mut W,
-    told: &E,
-    next: usize,
-    end: usize,
-    octets: &[u8],
-    output: Output,
-    out: &[u8],
-) -> Output
-    requires next_le_end { next ≤ end }
-    requires end_in_bounds { end ≤ length octets.now }
-    requires at_in_bounds { output.at ≤ length out.now }
-    ensures at_in_bounds_2 { result.at ≤ length out.now }
-    ensures at_value { result.at ≡ cond (ltb 0 (entry_of (part next end octets.now))) output.at 0 }
-    ensures failed_value { output.failed ≡ true → result.failed ≡ true }
-{
-    let size = stream::entry(&octets[next..end]);
-    if 0 < size {
-        return output;
+    // Adds a line.
+    fn put(&mut self, line: Line)
+        ensures { Puts W.contents self.old (text_of line ++ 10 ∷ []) self.new }
+    {
+        self.make_room();
+        self.add(line);
     }
-    flush(to, told, output, out)
-}
 
-// Gives the place for the next line in out, with room for any line: collected lines that leave too little room are written out.
-pub(crate) fn make_room<W: Write, E: Eprint>(
-    to: &mut W,
-    told: &E,
-    output: Output,
-    out: &[u8],
-) -> Output
-    requires at_in_bounds { output.at ≤ length out.now }
-    requires room_in_bounds { room ≤ length out.now }
-    ensures at_value { result.at ≡ place_for output.at (length out.now) }
-    ensures room_in_bounds_2 { result.at + room ≤ length out.now }
-    ensures failed_value { output.failed ≡ true → result.failed ≡ true }
-{
-    if out.len() - output.at < lines::ROOM {
-        return flush(to, told, output, out);
+    // Adds a line where there is room for any, or nothing before it, so that none is split over two writes.
+    fn add(&mut self, line: Line)
+        requires { OnOk self.old.written ((length (writer_buffer self.old.lines) + room ≤ writer_capacity self.old.lines) ⊎ (writer_buffer self.old.lines ≡ [])) }
+        ensures { Puts W.contents self.old (text_of line ++ 10 ∷ []) self.new }
+    {
+        if self.written.is_ok() {
+            self.written = writeln!(self.lines, "{line}");
+            self.tell_written();
+        }
     }
-    output
-}
 
-// Collects the line of an input that is cut, where octets are left.
-pub(crate) fn put_cut<W: Write, E: Eprint>(
-    to: &mut W,
-    told: &E,
-    count: u64,
-    output: Output,
-    out: &mut [u8],
-) -> Output
-    requires at_in_bounds { output.at ≤ length out.old }
-    requires room_in_bounds { room ≤ length out.old }
-    ensures added { Added (cut_line count) (place_for output.at (length out.old)) out.old result.at out.new }
-    ensures failed_value { output.failed ≡ true → result.failed ≡ true }
-{
-    let next = make_room(to, told, output, out);
-    let at = lines::cut_line(count, next.at, out);
-    let failed = next.failed;
-    Output { at, failed }
-}
+    // Adds the line of a reply.
+    pub(crate) fn put_answer(&mut self, reply: Reply)
+        ensures { Puts W.contents self.old (reply_line reply) self.new }
+    {
+        self.put(Line::Answer(reply));
+    }
 
-// Collects the line of the meters.
-pub(crate) fn put_meters<W: Write, E: Eprint>(
-    to: &mut W,
-    told: &E,
-    readings: Readings,
-    output: Output,
-    out: &mut [u8],
-) -> Output
-    requires at_in_bounds { output.at ≤ length out.old }
-    requires room_in_bounds { room ≤ length out.old }
-    ensures added { Added (meters_line readings) (place_for output.at (length out.old)) out.old result.at out.new }
-    ensures failed_value { output.failed ≡ true → result.failed ≡ true }
-{
-    let next = make_room(to, told, output, out);
-    let at = lines::meters_line(readings, next.at, out);
-    let failed = next.failed;
-    Output { at, failed }
+    // Adds the line of an input that is cut, where octets are left.
+    pub(crate) fn put_cut(&mut self, count: u64)
+        ensures { Puts W.contents self.old (cut_line count) self.new }
+    {
+        if count > 0 {
+            self.put(Line::Cut(count));
+        }
+    }
+
+    // Adds the line of the meters.
+    pub(crate) fn put_meters(&mut self, readings: Readings)
+        ensures { Puts W.contents self.old (meters_line readings) self.new }
+    {
+        self.put(Line::Meters(readings));
+    }
+
+    // Writes out the lines collected.
+    pub(crate) fn flush(&mut self)
+        ensures put { Puts W.contents self.old [] self.new }
+        ensures empty { OnOk self.new.written (writer_buffer self.new.lines ≡ []) }
+    {
+        if self.written.is_ok() {
+            self.written = self.lines.flush();
+            self.tell_written();
+        }
+    }
+
+    // Tells on standard error that a write has failed, where it has. No more is written after that.
+    fn tell_written(&self) {
+        if self.written.is_err() {
+            self.tell("listing: standard output cannot be written");
+        }
+    }
+
+    // Tells a failure on standard error.
+    pub(crate) fn tell(&self, failure: &str) {
+        let _ = self.told.eprintln(failure);
+    }
+
+    // The writer, and what has become of the writes. Lines that could not be written are let go: a BufWriter that is dropped would try
+    // them again.
+    pub(crate) fn finish(self) -> (W, io::Result<()>)
+        ensures to { result.0 ≡ writer_inner self.entry.lines }
+        ensures written { result.1 ≡ self.entry.written }
+    {
+        let Output {
+            lines,
+            written,
+            told: _,
+        } = self;
+        let (to, _) = lines.into_parts();
+        (to, written)
+    }
 }

@@ -8,5 +8,5 @@ use Rattle.lines.proofs.reply_line.Goals as goal
 
 pub returns : goal.returns
 returns c =
-    let text : take c.decimal-k.result c.decimal-k.new.out ≡ decimal c.args.reply.channel.0 = decimal_is (search rules) c.decimal-k.ensures.len c.decimal-k.ensures.digits in
-    rw text at c.line.ensures
+    let text : take c.decimal-k.result c.decimal-k.new.out ≡ decimal c.from-5.result = decimal_is (search rules) c.decimal-k.ensures.len c.decimal-k.ensures.digits in
+    rw (text, c.from.ensures, c.from-2.ensures, c.from-3.ensures, c.from-4.ensures, c.from-5.ensures) at c.line.ensures

@@ -1,15 +1,17 @@
--- `listing::list_messages`: from turn to turn the slices keep their lengths, the unread octets are ready with the next message, and what is
--- collected stays within the output. The measure is how many messages can still be counted.
-use Rattle.std.proofs.Common.{◌≡◌, ◌-◌, ◌<◌, ◌≤◌, length}
-use Rattle.receiver.specs.Record.{record_in}
-use Rattle.lines.specs.Text.{room}
-use Rattle.lines.specs.Reading.{part, most, largest, Ready}
-use Rattle.lines.specs.Listing.{Running}
+-- The loop of `listing::list_messages`: the messages so far are listed, and the next is read.
+use Rattle.std.proofs.Common.{ℕ, ◌-◌, ◌≡◌, List}
+use Rattle.std.specs.Io.Buffered.{reader_remaining}
+use Rattle.lines.specs.Reading.{largest, Stands}
+use Rattle.lines.specs.declared.reading.Next.TheVariants.{End}
+use Rattle.listing.specs.Writing.{Puts}
+use Rattle.listing.specs.Progress.{Progress}
 use Rattle.listing.proofs.list_messages.Given as goal
 
-abbrev pub invariant-loop-to : goal.invariant-loop-to
-invariant-loop-to g l =
-    Ready l.unread l.octets × (l.output.at ≤ length l.out) × (most < length l.octets) × (most ≤ length l.spare) × (room ≤ length l.out) × (length l.octets ≡ length l.initial.octets) × (length l.spare ≡ length l.initial.spare) × (length l.out ≡ length l.initial.out) × Running l.messages (record_in l.channels l.meters l.gathered) l.assembly (part l.unread.from l.unread.end l.octets)
+abbrev pub invariant-loop-next : goal.invariant-loop-next
+invariant-loop-next g l = record {
+  progress : Progress (reader_remaining g.R.Read.remaining l.fn.source.input) (reader_remaining g.R.Read.remaining l.source.input) (λ (text : List ℕ). Puts g.W.Write.contents l.fn.out text l.out) l.host.receiver l.host.assembly l.source.message.items l.messages (l.next ≡ End);
+  stands : Stands l.next l.source.message.items;
+}
 
-abbrev pub decreases-loop-to : goal.decreases-loop-to
-decreases-loop-to g l = largest - l.messages
+abbrev pub decreases-loop-next : goal.decreases-loop-next
+decreases-loop-next g l = largest - l.messages

@@ -1,14 +1,9 @@
-use Prim.Native.Nat.{◌-◌, ◌≤◌}
-use mathlib.Core.Path.{◌≡◌}
-use lib.ListN.{length, take}
+-- The invariant of the loop of `lines::text::numbers`: the numbers before this one, each after a space, stand at the front of the slice,
+-- which is as long as it was.
+use Rattle.std.proofs.Common.{◌≡◌, length, take}
 use Rattle.lines.specs.Text.{spaced, Front}
 use Rattle.lines.proofs.text.numbers.Given as goal
 
--- `lines::text::numbers` meets its contract. The invariant of its loop: the first i numbers, each after a space, stand at the front of
--- the slice, which is as long as it was. The measure is how many numbers are left.
-abbrev pub invariant-loop-i : goal.invariant-loop-i
-invariant-loop-i l =
-    (l.i ≤ length l.ns) × Front (spaced (take l.i l.ns)) l.initial.out l.at l.out × (length l.out ≡ length l.initial.out)
-
-abbrev pub decreases-loop-i : goal.decreases-loop-i
-decreases-loop-i l = length l.ns - l.i
+abbrev pub invariant-loop-n : goal.invariant-loop-n
+invariant-loop-n l =
+    Front (spaced (take l.n-index l.ns)) l.initial.out l.at l.out × (length l.out ≡ length l.initial.out)

@@ -1,0 +1,4 @@
+pub mod Hosting
+pub mod Counting
+pub mod Writing
+pub mod Progress
