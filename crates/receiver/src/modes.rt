@@ -56,14 +56,6 @@ impl TryFrom<u8> for Mode {
 }
 
 impl Mode {
-    // Check 6 on a number, without a branch, so that many channels are tested at a time: try_from takes 25 instructions a message more, and a wave
-    // of 100 points stands at its bar.
-    pub(crate) fn is_known(number: u8) -> bool
-        ensures { result ≡ known_mode number }
-    {
-        (number <= 2) | (number == 4) | (number == 6)
-    }
-
     // Check 7: 1 is the laser, 2 is DMX, and 0 is the default of each mode. Numbers: an enum of the three would be read here alone.
     pub(crate) fn takes(self, service: ServiceId) -> bool
         ensures { result ≡ service_fits (mode_number self) service.0 }

@@ -114,7 +114,7 @@ impl From<Result<Reply, Refusal>> for Reply {
 fn sound_channel(state: u8, size: u8, colours: u8) -> bool
     ensures { (bits : ℕ) → result ≡ consistent_at (record { state = state; match_bits = bits; size = size; colours = colours }) }
 {
-    Mode::is_known(state.saturating_sub(1)) & sizes_fit(size, colours)
+    Mode::try_from(state.saturating_sub(1)).is_ok() & sizes_fit(size, colours)
 }
 
 // The consistency rule for every channel.
