@@ -25,7 +25,7 @@
 #include <stddef.h>
 #include <stdint.h>
 
-#define MEWKOAST_VERSION "0.14.0"
+#define MEWKOAST_VERSION "0.14.1"
 
 #ifdef __cplusplus
 extern "C" {

@@ -1,11 +1,11 @@
 -- Laws of the octets at the front of the input: when a message stands there, and what a reader's octets add.
-use Rattle.std.proofs.Common.{ℕ, ◌≡◌, ◌<◌, ◌≤◌, Bool, true, false, cond, ◌||◌, List, [], ◌++◌, length, Option, Some, None, IfSome, Result, OnErr, Ok, Err, refl, sym, ap, ◌∙◌, arith, ltb, lt-ltb, ltb-false, true≢false, append_assoc, length-append}
+use Rattle.std.proofs.Common.{ℕ, ◌≡◌, ◌<◌, ◌≤◌, Bool, true, false, cond, ◌||◌, List, [], ◌++◌, length, take, drop, Option, Some, None, IfSome, Result, OnErr, Ok, Err, refl, sym, ap, ◌∙◌, arith, ltb, lt-ltb, ltb-false, true≢false, append_assoc, length-append, length-take, take-append-drop}
 use Rattle.std.proofs.Math.ListN.{get_or-append}
 use Rattle.std.specs.Io.KnownBytes.{Consumes}
 use Rattle.receiver.specs.Message.{total_size}
 use Rattle.receiver.specs.Checks.{least_message}
 use Rattle.receiver.specs.Stream.{is_cut, entry_of}
-use Rattle.receiver.specs.StreamLaws.{whole}
+use Rattle.receiver.specs.StreamLaws.{whole, entry_more}
 use Rattle.lines.specs.Reading.{Gained}
 
 pub on_err : {T E P : Type 0} (r : Result T E) → P → OnErr r P
@@ -76,3 +76,22 @@ all_there (Some xs) old new e h = sym (rw e at h)
 
 pub longer : {a b : Option (List ℕ)} {m₀ m₁ : List ℕ} → Gained a b m₀ m₁ → length m₀ ≤ length m₁
 longer {m₀} g = rw (g.after, length-append) (omega arith)
+
+-- octets at whose front stands a message of just their length are that message
+whole_front : (m rest : List ℕ) → length m ≡ entry_of (m ++ rest) → 0 < entry_of (m ++ rest) → (0 < entry_of m) × (entry_of m ≡ length m)
+whole_front m rest count some =
+    let is = claims (m ++ rest) some in
+    let two : 2 ≤ length m = omega (arith, is.size, is.least, count) in
+    let first : 0 < length m = omega (arith, two) in
+    let second : 1 < length m = omega (arith, two) in
+    let size : total_size (m ++ rest) ≡ total_size m = rw (get_or-append m rest 0 0 first, get_or-append m rest 0 1 second) refl in
+    let same : entry_of (m ++ rest) ≡ entry_of m = entry_more m rest two (omega (arith, size, is.size, count)) in
+    (rw same at some, sym (count ∙ same))
+
+-- the message at the front, taken from there
+pub taken_whole : (octets : List ℕ) → 0 < entry_of octets → (0 < entry_of (take (entry_of octets) octets)) × (entry_of (take (entry_of octets) octets) ≡ length (take (entry_of octets) octets))
+taken_whole octets some =
+    let is = claims octets some in
+    let parts : take (entry_of octets) octets ++ drop (entry_of octets) octets ≡ octets = take-append-drop (entry_of octets) octets in
+    let count : length (take (entry_of octets) octets) ≡ entry_of octets = rw length-take (omega (arith, is.size, is.all)) in
+    whole_front (take (entry_of octets) octets) (drop (entry_of octets) octets) (rw parts count) (rw parts some)

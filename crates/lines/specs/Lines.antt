@@ -28,3 +28,9 @@ text_of (Answer r) =
     ++ codes " " ++ printed r.lit_points
 text_of (Cut count) = codes "cut " ++ printed count
 text_of (Meters r) = codes "meters " ++ printed r.lit_time ++ codes " " ++ printed r.points ++ codes " " ++ printed r.lit_points
+
+-- a line and its end, as it is put into a slice; of a cut of no octets, nothing
+abbrev pub line_put : Line → List ℕ
+line_put (Answer r) = reply_line r
+line_put (Cut count) = cut_line count
+line_put (Meters r) = meters_line r

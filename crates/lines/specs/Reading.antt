@@ -33,6 +33,12 @@ Stands Message octets = (0 < entry_of octets) × (entry_of octets ≡ length oct
 Stands Cut octets = (more : List ℕ) → entry_of (octets ++ more) ≡ 0
 Stands End octets = entry_of octets ≡ 0
 
+-- what stands at the front of octets behind which more may follow: a whole message does; none does, whatever follows; or none does so far
+abbrev pub StandsFirst : Next → List ℕ → Type 0
+StandsFirst Message octets = 0 < entry_of octets
+StandsFirst Cut octets = (more : List ℕ) → entry_of (octets ++ more) ≡ 0
+StandsFirst End octets = (entry_of octets ≡ 0) × (length octets < most)
+
 -- the largest number of 64 bits
 abbrev pub largest : ℕ
 largest = 18446744073709551615

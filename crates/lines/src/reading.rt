@@ -3,7 +3,7 @@ ghost use Rattle.std.specs.Prelude.{◌≡◌, ◌-◌, ◌≤◌, ◌<◌, ◌�
 ghost use Rattle.std.specs.Io.KnownBytes.{Consumes};
 ghost use Rattle.receiver.specs.Message.{total_size};
 ghost use Rattle.receiver.specs.Stream.{entry_of};
-ghost use Rattle.lines.specs.Reading.{most, Gained, Stands, moved, stops, counted_of, counted_all, goes_on, lists_on};
+ghost use Rattle.lines.specs.Reading.{most, Gained, Stands, StandsFirst, moved, stops, counted_of, counted_all, goes_on, lists_on};
 ghost use Rattle.lines.specs.declared.reading.Next.TheVariants.{End};
 
 use super::text::copy;
@@ -21,6 +21,23 @@ pub enum Next {
     Message,
     Cut,
     End,
+}
+
+// The unread octets of a buffer, those from one place up to another; the size of the message at their front, 0 where none is whole; and
+// whether the last read gave nothing. Public, and so it stays, for those who keep a buffer of their own.
+#[derive(Clone, Copy)]
+pub struct Unread {
+    pub from: usize,
+    pub end: usize,
+    pub size: usize,
+    pub ended: bool,
+}
+
+// What a read leaves in such a buffer: the place after its octets, and whether it gave none.
+#[derive(Clone, Copy)]
+pub struct More {
+    pub end: usize,
+    pub ended: bool,
 }
 
 // Reads on until there are so many octets, or no more come. None is lost where a read fails.
@@ -52,6 +69,22 @@ fn claimed(octets: &[u8]) -> Option<usize>
         return None;
     };
     Some(usize::from(u16::from_be_bytes([*high, *low])))
+}
+
+// What stands at the front of octets that were read, as far as they tell: more may follow.
+pub fn front(octets: &[u8]) -> Next
+    ensures { StandsFirst result octets.now }
+{
+    let Some(size) = claimed(octets) else {
+        return Next::End;
+    };
+    if stream::entry(octets) > 0 {
+        Next::Message
+    } else if octets.len() < size {
+        Next::End
+    } else {
+        Next::Cut
+    }
 }
 
 // Reads the next message, in place of the one before. What is there of one that is not whole stays in its place.

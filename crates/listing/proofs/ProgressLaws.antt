@@ -1,9 +1,6 @@
 -- Laws of the listing on its way: how it begins, and what a message more adds.
-use Rattle.std.proofs.Common.{ℕ, ◌+◌, ◌<◌, ◌≡◌, List, [], ◌∷◌, ◌++◌, length, Option, None, Some, IfSome, Result, Ok, Err, MatchResult, OnOk, ◌⊎◌, inl, inr, ⊎_elim, ◌≤◌, IsOk, IsErr, Bool, true, false, true≢false, ◌||◌, eqb, eqb-true, refl, sym, ap, subst, ◌∙◌, arith, append_assoc, append-nil, length-append, zero-add, ltb-false}
-use Rattle.std.specs.Io.KnownBytes.{Consumes, Appends, prepend_known, append_known}
-use Rattle.std.specs.Io.Buffered.{reader_remaining, reader_buffer, reader_capacity, reader_inner, writer_contents, writer_buffer, writer_inner}
-use Rattle.std.specs.declared.io.buffered.BufReader.{BufReader}
-use Rattle.std.specs.declared.io.buffered.BufWriter.{BufWriter}
+use Rattle.std.proofs.Common.{ℕ, ◌+◌, ◌<◌, ◌≡◌, List, [], ◌∷◌, ◌++◌, length, take, drop, Option, None, Some, IfSome, Result, Ok, Err, MatchResult, OnOk, ◌⊎◌, inl, inr, ⊎_elim, ◌≤◌, IsOk, IsErr, Bool, true, false, true≢false, eqb-true, not, lt-ltb, refl, sym, ap, subst, ◌∙◌, arith, append_assoc, append-nil, length-append, zero-add, ltb-false, take-append-drop}
+use Rattle.std.specs.Io.KnownBytes.{Consumes, Keeps, Appends, IsAtEnd, prepend_known, append_known}
 use Rattle.receiver.specs.Slices.{Slices, lent, lengths}
 use Rattle.receiver.specs.Meters.{sums}
 use Rattle.receiver.specs.Contract.{Started, Answered}
@@ -11,13 +8,15 @@ use Rattle.receiver.specs.Stream.{entry_of}
 use Rattle.receiver.specs.declared.Receiver.{Receiver}
 use Rattle.receiver.specs.declared.Outcome.{Outcome}
 use Rattle.lines.specs.Lines.{reply_line}
-use Rattle.lines.specs.Reading.{Stands, lists_on, largest, counted_all}
+use Rattle.lines.specs.Reading.{StandsFirst, goes_on, lists_on, largest, counted_all}
 use Rattle.lines.specs.declared.reading.Next.{Next}
 use Rattle.lines.specs.declared.reading.Next.TheVariants.{Message, Cut, End}
-use Rattle.lines.proofs.ReadingLaws.{consumed, consumed_all}
-use Rattle.lines.proofs.RunLaws.{ran_begun, ran_more, ran_listed, unread_le}
+use Rattle.lines.proofs.ReadingLaws.{consumed, consumed_all, taken_whole}
+use Rattle.lines.proofs.RunLaws.{ran_begun, ran_more, ran_listed}
 use Rattle.listing.specs.declared.output.Output.{Output}
-use Rattle.listing.specs.Writing.{Puts}
+use Rattle.listing.specs.declared.input.Input.{Input}
+use Rattle.listing.specs.Waiting.{waiting_in, unlisted}
+use Rattle.listing.specs.Writing.{collected, held, Stays, Puts}
 use Rattle.listing.specs.Counting.{Counted}
 use Rattle.listing.specs.Progress.{Progress, AllRead}
 
@@ -33,18 +32,28 @@ appended_none : (a : Option (List ℕ)) → Appends a a []
 appended_none None = tt
 appended_none (Some xs) = sym (append-nil xs)
 
-pub put_none : {W E : Type 0} (contents : W → Option (List ℕ)) (o : Output W E) → Puts contents o [] o
-put_none contents o = record { added = λ ok. (ok, appended_none (writer_contents contents o.lines)); given_up = λ failed. refl }
+stays : {W E : Type 0} (o : Output W E) → Stays o o
+stays o = record { to = refl; text = refl; end = refl; written = refl; told = refl }
+
+stays_on : {W E : Type 0} (o₀ o₁ o₂ : Output W E) → Stays o₀ o₁ → Stays o₁ o₂ → Stays o₀ o₂
+stays_on o₀ o₁ o₂ p q = record { to = q.to ∙ p.to; text = q.text ∙ p.text; end = q.end ∙ p.end; written = q.written ∙ p.written; told = q.told ∙ p.told }
+
+-- nothing is put to an output that stays
+pub put_none : {W E : Type 0} (contents : W → Option (List ℕ)) (o₀ o₁ : Output W E) → Stays o₀ o₁ → Puts contents o₀ [] o₁
+put_none contents o₀ o₁ p =
+    record {
+      added = λ ok. (rw p.written at ok, rw (p.to, p.end, p.text) (appended_none (held contents o₀)));
+      given_up = λ failed. p;
+    }
+
+pub put_start : {W E : Type 0} (contents : W → Option (List ℕ)) (o : Output W E) → Puts contents o [] o
+put_start contents o = put_none contents o o (stays o)
 
 pub put_more : {W E : Type 0} (contents : W → Option (List ℕ)) (o₀ o₁ o₂ : Output W E) (t u : List ℕ) → Puts contents o₀ t o₁ → Puts contents o₁ u o₂ → Puts contents o₀ (t ++ u) o₂
 put_more contents o₀ o₁ o₂ t u p q =
-    let held = λ (o : Output _ _). writer_contents contents o.lines in
     record {
-      added = λ ok. let b = q.added ok in let a = p.added b.0 in (a.0, appended (held o₀) (held o₁) (held o₂) t u a.1 b.1);
-      given_up = λ failed.
-          let same = p.given_up failed in
-          let Failed : Output _ _ → Type 0 = λ o. IsErr o.written in
-          q.given_up (subst Failed (sym same) failed) ∙ same;
+      added = λ ok. let b = q.added ok in let a = p.added b.0 in (a.0, appended (held contents o₀) (held contents o₁) (held contents o₂) t u a.1 b.1);
+      given_up = λ failed. let same = p.given_up failed in stays_on o₀ o₁ o₂ same (q.given_up (rw same.written failed));
     }
 
 -- what is collected is written out
@@ -64,76 +73,139 @@ pub failed_with : {T E : Type 0} (r : Result T E) (P : T → Type 0) (Q : Type 0
 failed_with (Ok x) P Q failed q = absurd (true≢false (sym failed))
 failed_with (Err e) P Q failed q = q
 
-whole_there : (next : Next) (m : List ℕ) (count : ℕ) → Stands next m → lists_on next count ≡ true → (0 < entry_of m) × (entry_of m ≡ length m)
-whole_there Message m count h e = h
-whole_there Cut m count h e = absurd (true≢false (sym e))
-whole_there End m count h e = absurd (true≢false (sym e))
+pub whole_there : (next : Next) (waiting : List ℕ) (count : ℕ) → StandsFirst next waiting → lists_on next count ≡ true → goes_on (entry_of waiting) count ≡ true
+whole_there Message waiting count h e = rw (lt-ltb 0 (entry_of waiting) h) e
+whole_there Cut waiting count h e = absurd (true≢false (sym e))
+whole_there End waiting count h e = absurd (true≢false (sym e))
 
-pub begins : {left₀ left₁ : Option (List ℕ)} {Put : List ℕ → Type 0} (o : Outcome) → Started (sums 0 0 0) o → (assembly m : List ℕ) → Consumes left₀ left₁ m → Put [] → (Ended : Type 0)
-    → (Ended → IfSome left₀ (λ all. all ≡ m)) → Progress left₀ left₁ Put o.receiver assembly m 0 Ended
-begins o started assembly m given put Ended all =
-    record { octets = m; messages = []; lines = []; ran = ran_begun o started assembly m; counted = refl; given = given; put = put; all = all }
+consumed_none : (left : Option (List ℕ)) → Consumes left left []
+consumed_none None = tt
+consumed_none (Some xs) = refl
 
-pub goes : {left₀ left₁ left₂ : Option (List ℕ)} {Put Put' : List ℕ → Type 0} {r : Receiver} {assembly m m' : List ℕ} {count : ℕ} {Before : Type 0}
-    → Progress left₀ left₁ Put r assembly m count Before → (next : Next) → Stands next m → lists_on next count ≡ true
+consumed_kept : (a b c : Option (List ℕ)) (xs : List ℕ) → Consumes a b xs → Keeps b c → Consumes a c xs
+consumed_kept None b c xs p k = tt
+consumed_kept (Some x) None c xs p k = absurd p
+consumed_kept (Some x) (Some y) None xs p k = absurd k
+consumed_kept (Some x) (Some y) (Some z) xs p k = rw k p
+
+-- nothing is listed yet
+pub begins : (left : Option (List ℕ)) {Put : List ℕ → Type 0} (o : Outcome) → Started (sums 0 0 0) o → (assembly : List ℕ) → Put [] → Progress left left Put o.receiver assembly 0
+begins left o started assembly put =
+    record { octets = []; messages = []; lines = []; ran = ran_begun o started assembly []; counted = refl; given = consumed_none left; put = put }
+
+-- what waits changes no more than its place
+pub waits_on : {left₀ left₁ left₂ : Option (List ℕ)} {Put Put' : List ℕ → Type 0} {r : Receiver} {assembly : List ℕ} {count : ℕ}
+    → Progress left₀ left₁ Put r assembly count → Keeps left₁ left₂ → ((text : List ℕ) → Put text → Put' text) → Progress left₀ left₂ Put' r assembly count
+waits_on {left₀} {left₁} {left₂} p kept put =
+    record { octets = p.octets; messages = p.messages; lines = p.lines; ran = p.ran; counted = p.counted; given = consumed_kept left₀ left₁ left₂ p.octets p.given kept; put = put p.lines p.put }
+
+-- a message more, the one at the front of what waits
+pub goes : {left₀ left₁ left₂ : Option (List ℕ)} {Put Put' : List ℕ → Type 0} {r : Receiver} {assembly : List ℕ} {count : ℕ}
+    → Progress left₀ left₁ Put r assembly count → (m : List ℕ) → 0 < entry_of m → entry_of m ≡ length m → Consumes left₁ left₂ m
     → (s₀ s₁ : Slices) (o : Outcome) → lengths s₀ ≡ lent 12000 1024 65536 → s₀.assembly ≡ assembly → Answered r m s₀ o s₁
     → ((text : List ℕ) → Put text → Put' (text ++ reply_line o.reply))
-    → Consumes left₁ left₂ m' → (Ended : Type 0) → (Ended → IfSome left₁ (λ all. all ≡ m'))
-    → Progress left₀ left₂ Put' o.receiver s₁.assembly m' (count + 1) Ended
-goes {left₀} {left₁} {left₂} {m = m} {m' = m'} {count = count} p next stands on s₀ s₁ o room same answered put given Ended ended =
-    let w = whole_there next m count stands on in
+    → Progress left₀ left₂ Put' o.receiver s₁.assembly (count + 1)
+goes {left₀} {left₁} {left₂} {count = count} p m some all given s₀ s₁ o room same answered put =
     record {
-      octets = p.octets ++ m';
+      octets = p.octets ++ m;
       messages = p.messages ++ (m ∷ []);
       lines = p.lines ++ reply_line o.reply;
-      ran = ran_more (ran_listed p.ran w.0 w.1 s₀ s₁ o room same answered) m';
+      ran = ran_listed (ran_more p.ran m) some all s₀ s₁ o room same answered;
       counted = rw (length-append, p.counted) refl;
-      given = consumed left₀ left₁ left₂ p.octets m' p.given given;
+      given = consumed left₀ left₁ left₂ p.octets m p.given given;
       put = put p.lines p.put;
-      all = λ h. consumed_all left₀ left₁ p.octets m' p.given (ended h);
     }
 
-pub cut_or_many : (next : Next) (m : List ℕ) (messages : ℕ) → (next ≡ End → ⊥) → Stands next m → lists_on next messages ≡ false
-    → (more : List ℕ) → (entry_of (m ++ more) ≡ 0) ⊎ (largest ≤ messages)
-cut_or_many Message m messages other h e more = inr (ltb-false messages largest e)
-cut_or_many Cut m messages other h e more = inl (h more)
-cut_or_many End m messages other h e more = absurd (other refl)
+-- octets taken from the front of what waits are taken from what is to be listed
+pub taken : (known : Option (List ℕ)) (count : ℕ) (waiting : List ℕ) → Consumes (prepend_known waiting known) (prepend_known (drop count waiting) known) (take count waiting)
+taken None count waiting = tt
+taken (Some xs) count waiting = ap (λ l. l ++ xs) (sym (take-append-drop count waiting)) ∙ append_assoc (take count waiting) (drop count waiting) xs
+
+-- a message more, taken whole from the front of what waits
+pub goes_waiting : {left₀ : Option (List ℕ)} {Put Put' : List ℕ → Type 0} {r : Receiver} {assembly : List ℕ} {count : ℕ} (known known' : Option (List ℕ)) (waiting waiting' m : List ℕ) (size : ℕ)
+    → Progress left₀ (prepend_known waiting known) Put r assembly count
+    → size ≡ entry_of waiting → 0 < size → m ≡ take size waiting → waiting' ≡ drop size waiting → known' ≡ known
+    → (s₀ s₁ : Slices) (o : Outcome) → lengths s₀ ≡ lent 12000 1024 65536 → s₀.assembly ≡ assembly → Answered r m s₀ o s₁
+    → ((text : List ℕ) → Put text → Put' (text ++ reply_line o.reply))
+    → Progress left₀ (prepend_known waiting' known') Put' o.receiver s₁.assembly (count + 1)
+goes_waiting {r = r} known known' waiting waiting' m size p is some front rest same_known s₀ s₁ o room same answered put =
+    let whole = taken_whole waiting (rw is at some) in
+    let told : Answered r (take (entry_of waiting) waiting) s₀ o s₁ = rw (front, is) at answered in
+    rw (same_known, rest, is) (goes p (take (entry_of waiting) waiting) whole.0 whole.1 (taken known (entry_of waiting) waiting) s₀ s₁ o room same told put)
+
+pub cut_or_many : (next : Next) (waiting : List ℕ) (messages : ℕ) → (next ≡ End → ⊥) → StandsFirst next waiting → lists_on next messages ≡ false
+    → (more : List ℕ) → (entry_of (waiting ++ more) ≡ 0) ⊎ (largest ≤ messages)
+cut_or_many Message waiting messages other h e more = inr (ltb-false messages largest e)
+cut_or_many Cut waiting messages other h e more = inl (h more)
+cut_or_many End waiting messages other h e more = absurd (other refl)
+
+-- what waits, and what the reader gives behind it, is taken from what is to be listed
+waited : (left₁ left₂ : Option (List ℕ)) (waiting xs : List ℕ) → Consumes left₁ left₂ xs → Consumes (prepend_known waiting left₁) left₂ (waiting ++ xs)
+waited None left₂ waiting xs given = tt
+waited (Some x) None waiting xs given = absurd given
+waited (Some x) (Some y) waiting xs given = ap (λ l. waiting ++ l) given ∙ sym (append_assoc waiting xs y)
+
+waited_all : (left : Option (List ℕ)) (waiting xs : List ℕ) → IfSome left (λ all. all ≡ xs) → IfSome (prepend_known waiting left) (λ all. all ≡ waiting ++ xs)
+waited_all None waiting xs h = tt
+waited_all (Some x) waiting xs h = ap (λ l. waiting ++ l) h
 
 -- what is cut, or left behind the last of 2^64 - 1 messages, is counted with what is read behind it
-pub counts : {T E : Type 0} {left₀ left₁ left₂ : Option (List ℕ)} {Put : List ℕ → Type 0} {r : Receiver} {assembly m : List ℕ} {messages count : ℕ} {read : Result T E} {Ended : Type 0}
-    → Progress left₀ left₁ Put r assembly m messages Ended → ((more : List ℕ) → (entry_of (m ++ more) ≡ 0) ⊎ (largest ≤ messages))
-    → Counted left₁ left₂ (length m) count read → AllRead left₀ left₂ Put r count read
-counts {left₀ = left₀} {left₁} {left₂} {assembly = assembly} {m = m} {count = count} {read = read} p cut k =
+pub counts : {T E : Type 0} {left₀ left₁ left₂ : Option (List ℕ)} (waiting : List ℕ) {Put : List ℕ → Type 0} {r : Receiver} {assembly : List ℕ} {messages count : ℕ} {read : Result T E}
+    → Progress left₀ (prepend_known waiting left₁) Put r assembly messages → ((more : List ℕ) → (entry_of (waiting ++ more) ≡ 0) ⊎ (largest ≤ messages))
+    → Counted left₁ left₂ (length waiting) count read → AllRead left₀ left₂ Put r count read
+counts {left₀ = left₀} {left₁} {left₂} waiting {assembly = assembly} {count = count} {read = read} p cut k =
+    let rest = waiting ++ k.octets in
+    let given = waited left₁ left₂ waiting k.octets k.given in
     record {
-      octets = p.octets ++ k.octets;
+      octets = p.octets ++ rest;
       messages = p.messages;
       assembly = assembly;
-      rest = m ++ k.octets;
+      rest = rest;
       lines = p.lines;
-      ran = ran_more p.ran k.octets;
+      ran = ran_more p.ran rest;
       whole = rw p.counted (cut k.octets);
       counted = rw (length-append, zero-add, k.counted) refl;
-      given = consumed left₀ left₁ left₂ p.octets k.octets p.given k.given;
+      given = consumed left₀ (prepend_known waiting left₁) left₂ p.octets rest p.given given;
       put = p.put;
-      all = on_ok read (⊎_elim (λ h. inl (consumed_all left₀ left₁ p.octets k.octets p.given h))
-          (λ h. inr (rw length-append (omega (arith, h, k.counted, unread_le p.ran.run))))) k.all;
+      all = on_ok read (⊎_elim (λ h. inl (consumed_all left₀ (prepend_known waiting left₁) p.octets rest p.given (waited_all left₁ waiting k.octets h)))
+          (λ h. inr (rw (length-append, length-append) (omega (arith, h, k.counted))))) k.all;
     }
 
+nothing_left : (left : Option (List ℕ)) → IsAtEnd left → IfSome left (λ all. all ≡ [])
+nothing_left None h = tt
+nothing_left (Some xs) h = h
+
+-- fewer octets than a message has wait, and no more come
+pub ends : {T E : Type 0} {left₀ left : Option (List ℕ)} (waiting : List ℕ) {Put : List ℕ → Type 0} {r : Receiver} {assembly : List ℕ} {messages : ℕ}
+    → Progress left₀ (prepend_known waiting left) Put r assembly messages → entry_of waiting ≡ 0 → length waiting ≤ largest → (read : Result T E) → OnOk read (IsAtEnd left)
+    → AllRead left₀ left Put r (length waiting) read
+ends {left₀ = left₀} {left} waiting {assembly = assembly} p none few read end =
+    record {
+      octets = p.octets ++ waiting;
+      messages = p.messages;
+      assembly = assembly;
+      rest = waiting;
+      lines = p.lines;
+      ran = ran_more p.ran waiting;
+      whole = inl none;
+      counted = rw zero-add (omega (arith, few));
+      given = rw append-nil at (consumed left₀ (prepend_known waiting left) left p.octets (waiting ++ []) p.given (waited left left waiting [] (consumed_none left)));
+      put = p.put;
+      all = on_ok read (λ h. inl (consumed_all left₀ (prepend_known waiting left) p.octets waiting p.given (rw append-nil at (waited_all left waiting [] (nothing_left left h))))) end;
+    }
+
+at_end : (left₁ left₂ : Option (List ℕ)) (more : List ℕ) → Consumes left₁ left₂ more → IsAtEnd left₂ → IfSome left₁ (λ all. all ≡ more)
+at_end None left₂ more given end = tt
+at_end (Some x) None more given end = absurd given
+at_end (Some x) (Some y) more given end = rw (end, append-nil) at given
+
 -- the count ends where a read gave nothing, which then is all, or where it can be no larger
-pub count_ends : (left₀ left₁ : Option (List ℕ)) (before more : List ℕ) (count : ℕ) → Consumes left₀ left₁ before → IfSome left₁ (λ xs. length more ≡ 0 → xs ≡ [])
-    → counted_all count (eqb (length more) 0) ≡ true → IfSome left₀ (λ all. all ≡ before ++ more) ⊎ (count ≡ largest)
-count_ends left₀ left₁ before more count given end all = by_test (eqb (length more) 0) refl all
-  where
-    nothing : (left : Option (List ℕ)) (more : List ℕ) → IfSome left (λ xs. length more ≡ 0 → xs ≡ []) → length more ≡ 0 → IfSome left (λ xs. xs ≡ more)
-    nothing None more h e = tt
-    nothing (Some xs) [] h e = h refl
-    nothing (Some xs) (x ∷ more) h e = absurd (omega (arith, e))
+pub count_ends : (left₀ left₁ left₂ : Option (List ℕ)) (before more : List ℕ) (count : ℕ) (came : Bool) → Consumes left₀ left₁ before → Consumes left₁ left₂ more → (came ≡ false → IsAtEnd left₂)
+    → counted_all count (not came) ≡ true → IfSome left₀ (λ all. all ≡ before ++ more) ⊎ (count ≡ largest)
+count_ends left₀ left₁ left₂ before more count false given then end e = inl (consumed_all left₀ left₁ before more given (at_end left₁ left₂ more then (end refl)))
+count_ends left₀ left₁ left₂ before more count true given then end e = inr (eqb-true count largest e)
 
-    by_test : (b : Bool) → eqb (length more) 0 ≡ b → (b || eqb count largest) ≡ true → IfSome left₀ (λ xs. xs ≡ before ++ more) ⊎ (count ≡ largest)
-    by_test true none e = inl (consumed_all left₀ left₁ before more given (nothing left₁ more end (eqb-true (length more) 0 none)))
-    by_test false none e = inr (eqb-true count largest e)
-
--- ---- a reader and a writer with nothing in their buffers
+-- ---- a reader and a writer of which nothing is read and written yet
 
 nothing_before : (known : Option (List ℕ)) → prepend_known [] known ≡ known
 nothing_before None = refl
@@ -143,12 +215,11 @@ nothing_behind : (known : Option (List ℕ)) → append_known known [] ≡ known
 nothing_behind None = refl
 nothing_behind (Some xs) = ap Some (append-nil xs)
 
-pub reader_begins : {T A : Type 0} (remaining : T → Option (List ℕ)) (r : BufReader T A) (input : T) → reader_inner r ≡ input → reader_buffer r ≡ [] → reader_capacity r ≡ 131072
-    → reader_remaining remaining r ≡ remaining input
-reader_begins remaining r input inner empty capacity = rw (capacity, empty, inner) (nothing_before (remaining input))
+pub reader_begins : {R : Type 0} (remaining : R → Option (List ℕ)) (i : Input R) (from : R) → i.from ≡ from → waiting_in i ≡ [] → unlisted remaining i ≡ remaining from
+reader_begins remaining i from is empty = rw (is, empty) (nothing_before (remaining from))
 
-pub writer_begins : {T A : Type 0} (contents : T → Option (List ℕ)) (w : BufWriter T A) (to : T) → writer_inner w ≡ to → writer_buffer w ≡ [] → writer_contents contents w ≡ contents to
-writer_begins contents w to inner empty = rw (empty, inner) (nothing_behind (contents to))
+writer_begins : {W E : Type 0} (contents : W → Option (List ℕ)) (o : Output W E) → collected o ≡ [] → held contents o ≡ contents o.to
+writer_begins contents o empty = rw empty (nothing_behind (contents o.to))
 
 where_ok : {T E A : Type 0} (r : Result T E) → (IsOk r → A) → OnOk r A
 where_ok (Ok x) f = f refl
@@ -159,10 +230,9 @@ is_there (Ok x) ok h = h
 is_there (Err e) ok h = absurd (true≢false (sym ok))
 
 -- what was put stands behind what the writer held before, once all is written out
-pub put_all : {W E : Type 0} (contents : W → Option (List ℕ)) (o₀ o₁ : Output W E) (text : List ℕ) (to : W) → writer_inner o₀.lines ≡ to → writer_buffer o₀.lines ≡ []
-    → Puts contents o₀ text o₁ → OnOk o₁.written (writer_buffer o₁.lines ≡ []) → OnOk o₁.written (Appends (contents to) (contents (writer_inner o₁.lines)) text)
-put_all contents o₀ o₁ text to inner empty p out =
+pub put_all : {W E : Type 0} (contents : W → Option (List ℕ)) (o₀ o₁ : Output W E) (text : List ℕ) → collected o₀ ≡ [] → Puts contents o₀ text o₁
+    → OnOk o₁.written (o₁.end ≡ 0) → OnOk o₁.written (Appends (contents o₀.to) (contents o₁.to) text)
+put_all contents o₀ o₁ text empty p out =
     where_ok o₁.written (λ ok.
-    let before = writer_begins contents o₀.lines to inner empty in
-    let after = writer_begins contents o₁.lines (writer_inner o₁.lines) refl (is_there o₁.written ok out) in
-    rw (before, after) at ((p.added ok).1))
+    let none : collected o₁ ≡ [] = rw (is_there o₁.written ok out) refl in
+    rw (writer_begins contents o₀ empty, writer_begins contents o₁ none) at ((p.added ok).1))

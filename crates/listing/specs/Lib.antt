@@ -1,4 +1,5 @@
 pub mod Hosting
+pub mod Waiting
 pub mod Counting
 pub mod Writing
 pub mod Progress

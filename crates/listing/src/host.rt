@@ -6,7 +6,10 @@ ghost use Rattle.receiver.specs.Contract.{outcome, Started, Answered, readings_o
 ghost use Rattle.receiver.specs.declared.Reply.{Reply};
 ghost use Rattle.listing.specs.Hosting.{slices_of};
 
-use receiver::place::mewkoast_offer_on;
+use receiver::place::{
+    CHANNEL_OCTETS, GATHERED_COUNT, METER_COUNT, mewkoast_begin_on, mewkoast_offer_on,
+    mewkoast_readings_on,
+};
 use receiver::{Readings, Receiver, Reply};
 
 // How many numbers are lent for the rows of a message.
@@ -31,12 +34,26 @@ impl Host {
     pub(crate) fn start() -> Host
         ensures { (reply : Reply) × Started (sums 0 0 0) (outcome result.receiver reply) }
     {
-        Host {
-            receiver: Receiver::start(0, 0, 0).receiver,
+        let mut host = Host {
+            receiver: Receiver {
+                meters: [0; METER_COUNT],
+                gathered: [0; GATHERED_COUNT],
+                channels: [0; CHANNEL_OCTETS],
+            },
             rows: [0; NUMBERS],
             levels: [0; LEVELS],
             assembly: [0; ASSEMBLY],
-        }
+        };
+        let receiver = &mut host.receiver;
+        mewkoast_begin_on(
+            &mut receiver.channels,
+            &mut receiver.meters,
+            &mut receiver.gathered,
+            0,
+            0,
+            0,
+        );
+        host
     }
 
     // Offers a message.
@@ -59,6 +76,6 @@ impl Host {
     pub(crate) fn readings(&self) -> Readings
         ensures { result ≡ readings_of self.now.receiver }
     {
-        self.receiver.readings()
+        mewkoast_readings_on(&self.receiver.meters)
     }
 }

@@ -6,160 +6,155 @@ mod host;
 mod input;
 mod output;
 
-ghost use Rattle.std.specs.Prelude.{◌≡◌, ℕ, false, ◌≤◌, [], vec_capacity, Ok, IfOk, OnOk, MatchResult};
-ghost use Rattle.std.specs.Io.Buffered.{reader_buffer, reader_remaining, writer_buffer};
+ghost use Rattle.std.specs.Prelude.{◌≡◌, [], ℕ, true, false, ◌<◌, Ok, OnOk, MatchResult};
+ghost use Rattle.std.specs.Io.KnownBytes.{IsAtEnd};
 ghost use Rattle.receiver.specs.Slices.{lent, lengths};
 ghost use Rattle.receiver.specs.Meters.{sums};
 ghost use Rattle.receiver.specs.Contract.{outcome, Started, Answered};
 ghost use Rattle.receiver.specs.Stream.{entry_of};
 ghost use Rattle.receiver.specs.declared.Reply.{Reply};
 ghost use Rattle.lines.specs.Lines.{reply_line};
-ghost use Rattle.lines.specs.Reading.{most, Stands, lists_on};
+ghost use Rattle.lines.specs.Reading.{StandsFirst, goes_on, lists_on};
 ghost use Rattle.lines.specs.declared.reading.Next.TheVariants.{End};
 ghost use Rattle.listing.specs.Hosting.{slices_of};
-ghost use Rattle.listing.specs.Writing.{Puts};
-ghost use Rattle.listing.specs.Progress.{Progress, AllRead, AllListed, Listed};
+ghost use Rattle.listing.specs.Waiting.{waiting_in, unlisted};
+ghost use Rattle.listing.specs.Writing.{Stays, Puts};
+ghost use Rattle.listing.specs.Progress.{Progress, ListsOn, AllRead, AllListed, Listed};
 
 use host::Host;
-use input::count_rest;
-use lines::reading;
+use input::Input;
 use lines::reading::Next;
+use lines::{Line, reading};
 use output::Output;
 use receiver::stream;
-use std::alloc::Global;
 use std::io;
-use std::io::{BufReader, BufWriter, Eprint, Read, Write};
-use std::process::ExitCode;
-
-// How many octets are read at once.
-const INPUT: usize = 131072;
-
-// How many octets of lines are collected.
-const OUTPUT: usize = 65536;
-
-// The reader of a listing, and the message read last, in a place with room for any.
-#[derive(Drop)]
-struct Source<R: Read> {
-    input: BufReader<R>,
-    message: Vec<u8>,
-    ghost room: { most ≤ vec_capacity message },
-}
+use std::io::{Eprint, Read, Write};
 
 // Offers a message to the host's receiver, and adds the line of the reply.
-fn list_message<W: Write + Drop, E: Eprint>(message: &[u8], host: &mut Host, out: &mut Output<W, E>)
+fn list_message<W: Write, E: Eprint>(message: &[u8], host: &mut Host, out: &mut Output<W, E>)
     ensures lent { lengths (slices_of host.old) ≡ lent 12000 1024 65536 }
     ensures answered { (reply : Reply) × Answered host.old.receiver message.now (slices_of host.old) (outcome host.new.receiver reply) (slices_of host.new) × Puts W.contents out.old (reply_line reply) out.new }
 {
     let reply = host.offer(message);
-    out.put_answer(reply);
+    out.put(Line::Answer(reply));
+}
+
+// Lists the messages that stand whole at the front of what waits, each from there. Gives how many are listed then, after so many before.
+fn list_waiting<R: Read, W: Write, E: Eprint>(
+    input: &mut Input<R>,
+    host: &mut Host,
+    out: &mut Output<W, E>,
+    before: u64,
+) -> u64
+    ensures on { ListsOn W.contents (unlisted R.remaining input.old) (unlisted R.remaining input.new) out.old out.new host.old.receiver host.new.receiver host.old.assembly host.new.assembly before result }
+    ensures some { goes_on (entry_of (waiting_in input.old)) before ≡ true → before < result }
+    ensures all { goes_on (entry_of (waiting_in input.new)) result ≡ false }
+{
+    let mut messages = before;
+    let mut size = stream::entry(input.waiting());
+    while reading::goes_on(size, messages) {
+        list_message(&input.waiting()[..size], host, out);
+        input.consume(size);
+        messages += 1;
+        size = stream::entry(input.waiting());
+    }
+    messages
 }
 
 // Writes the lines out before a read that may wait: where the next message is not there whole.
-fn flush_to_wait<R: Read, W: Write + Drop, E: Eprint>(input: &BufReader<R>, out: &mut Output<W, E>)
+fn flush_to_wait<R: Read, W: Write, E: Eprint>(input: &Input<R>, out: &mut Output<W, E>)
     ensures put { Puts W.contents out.old [] out.new }
-    ensures empty { entry_of (reader_buffer input.now) ≡ 0 → OnOk out.new.written (writer_buffer out.new.lines ≡ []) }
+    ensures empty { entry_of (waiting_in input.now) ≡ 0 → OnOk out.new.written (out.new.end ≡ 0) }
+    ensures kept { 0 < entry_of (waiting_in input.now) → Stays out.old out.new }
 {
-    if stream::entry(input.buffer()) == 0 {
+    if stream::entry(input.waiting()) == 0 {
         out.flush();
     }
 }
 
-// Lists the messages, as far as whole ones come. What is read of the next stays in the place for a message.
-fn list_messages<R: Read, W: Write + Drop, E: Eprint>(
-    source: &mut Source<R>,
+// Lists the messages, as far as whole ones come. What is read of the next waits.
+fn list_messages<R: Read, W: Write, E: Eprint>(
+    input: &mut Input<R>,
     host: &mut Host,
     out: &mut Output<W, E>,
 ) -> io::Result<Next>
     requires started { (reply : Reply) × Started (sums 0 0 0) (outcome host.old.receiver reply) }
-    ensures { (count : ℕ) × Progress (reader_remaining R.remaining source.old.input) (reader_remaining R.remaining source.new.input) (λ text. Puts W.contents out.old text out.new) host.new.receiver host.new.assembly source.new.message.items count (result ≡ Ok End) × MatchResult result (λ next. Stands next source.new.message.items × (lists_on next count ≡ false)) (λ _. entry_of source.new.message.items ≡ 0) }
+    ensures progress { (count : ℕ) × Progress (unlisted R.remaining input.old) (unlisted R.remaining input.new) (λ text. Puts W.contents out.old text out.new) host.new.receiver host.new.assembly count × MatchResult result (λ next. StandsFirst next (waiting_in input.new) × (lists_on next count ≡ false)) (λ _. entry_of (waiting_in input.new) ≡ 0) }
+    ensures end { result ≡ Ok End → IsAtEnd (R.remaining input.new.from) }
 {
     let mut messages: u64 = 0;
-    let mut next = reading::read_message(&mut source.input, &mut source.message)?;
+    let mut next = input.read_message()?;
     while reading::lists_on(next, messages) {
-        list_message(source.message.as_slice(), host, out);
-        flush_to_wait(&source.input, out);
-        messages += 1;
-        next = reading::read_message(&mut source.input, &mut source.message)?;
+        messages = list_waiting(input, host, out, messages);
+        flush_to_wait(input, out);
+        next = input.read_message()?;
     }
     Ok(next)
 }
 
 // Lists the messages, and counts the octets behind them.
-fn list_input<R: Read, W: Write + Drop, E: Eprint>(
-    source: &mut Source<R>,
+fn list_input<R: Read, W: Write, E: Eprint>(
+    input: &mut Input<R>,
     host: &mut Host,
     out: &mut Output<W, E>,
 ) -> (u64, io::Result<()>)
     requires started { (reply : Reply) × Started (sums 0 0 0) (outcome host.old.receiver reply) }
-    ensures { AllRead (reader_remaining R.remaining source.old.input) (reader_remaining R.remaining source.new.input) (λ text. Puts W.contents out.old text out.new) host.new.receiver result.0 result.1 }
+    ensures { AllRead (unlisted R.remaining input.old) (R.remaining input.new.from) (λ text. Puts W.contents out.old text out.new) host.new.receiver result.0 result.1 }
 {
-    match list_messages(source, host, out) {
-        Ok(Next::End) => (source.message.len() as u64, Ok(())),
-        Ok(_) => count_rest(&mut source.input, source.message.len()),
-        Err(e) => (source.message.len() as u64, Err(e)),
+    match list_messages(input, host, out) {
+        Ok(Next::End) => (input.waiting().len() as u64, Ok(())),
+        Ok(_) => input.count_rest(),
+        Err(e) => (input.waiting().len() as u64, Err(e)),
     }
 }
 
 // Lists the messages, then what is cut, then the meters, and writes all out.
-fn list<R: Read, W: Write + Drop, E: Eprint>(
-    source: &mut Source<R>,
+fn list<R: Read, W: Write, E: Eprint>(
+    input: &mut Input<R>,
     out: &mut Output<W, E>,
 ) -> io::Result<()>
-    ensures listed { AllListed (reader_remaining R.remaining source.old.input) (reader_remaining R.remaining source.new.input) (λ text. Puts W.contents out.old text out.new) result }
-    ensures written { OnOk out.new.written (writer_buffer out.new.lines ≡ []) }
+    ensures listed { AllListed (unlisted R.remaining input.old) (R.remaining input.new.from) (λ text. Puts W.contents out.old text out.new) result }
+    ensures written { OnOk out.new.written (out.new.end ≡ 0) }
 {
     let mut host = Host::start();
-    let (cut, read) = list_input(source, &mut host, out);
+    let (cut, read) = list_input(input, &mut host, out);
     if read.is_err() {
         out.tell("listing: standard input cannot be read");
     }
-    out.put_cut(cut);
-    out.put_meters(host.readings());
+    out.put(Line::Cut(cut));
+    out.put(Line::Meters(host.readings()));
     out.flush();
     read
 }
 
 // The reader and the writer of a listing, and what has become of the reads and the writes.
 #[derive(Drop)]
-struct Done<R: Read, W> {
-    from: BufReader<R>,
+struct Done<R, W> {
+    from: R,
     to: W,
     read: io::Result<()>,
     written: io::Result<()>,
 }
 
-// Lists an input, unless there is no memory. What is needed of it is taken before the first read.
-fn run<R: Read + Drop, W: Write + Drop, E: Eprint>(
-    alloc: Global,
-    input: R,
-    to: W,
-    told: &E,
-) -> io::Result<Done<R, W>>
-    ensures { IfOk result (λ done. Listed (R.remaining input) (reader_remaining R.remaining done.from) (W.contents to) (W.contents done.to) done.read done.written) }
+// Lists an input.
+fn run<R: Read + Drop, W: Write + Drop, E: Eprint>(from: R, to: W, told: &E) -> Done<R, W>
+    ensures { Listed (R.remaining from) (R.remaining result.from) (W.contents to) (W.contents result.to) result.read result.written }
 {
-    let input = BufReader::with_capacity(alloc, INPUT, input)?;
-    let message = Vec::with_capacity(alloc, reading::MOST)?;
-    let mut source = Source { input, message };
-    let mut out = Output::new(BufWriter::with_capacity(alloc, OUTPUT, to)?, told);
-    let read = list(&mut source, &mut out);
+    let mut input = Input::new(from);
+    let mut out = Output::new(to, told);
+    let read = list(&mut input, &mut out);
     let (to, written) = out.finish();
-    Ok(Done {
-        from: source.input,
+    Done {
+        from: input.finish(),
         to,
         read,
         written,
-    })
+    }
 }
 
 // A read or a write that fails is told, and leaves the status as it is.
-fn main(rt: HostRuntime) -> ExitCode {
-    match run(rt.alloc(), rt.stdin(), rt.stdout(), &rt) {
-        Ok(_) => ExitCode::SUCCESS,
-        Err(_) => {
-            let _ = rt.eprintln("listing: no memory");
-            ExitCode::FAILURE
-        }
-    }
+fn main(rt: HostRuntime) {
+    let _ = run(rt.stdin(), rt.stdout(), &rt);
 }
 
 #[cfg(test)]
@@ -201,7 +196,7 @@ mod tests {
 
     #[test]
     fn lists_a_message_and_a_cut(rt: HostRuntime) -> Result<(), Fail> {
-        let done = run(rt.alloc(), OCTETS.as_slice(), Vec::new(rt.alloc()), &rt)?;
+        let done = run(OCTETS.as_slice(), Vec::new(rt.alloc()), &rt);
         assert_eq!(rt; done.to.as_slice(), LISTING);
         assert!(rt; done.read.is_ok() && done.written.is_ok());
         Ok(())
@@ -209,7 +204,7 @@ mod tests {
 
     #[test]
     fn ends_where_a_read_fails(rt: HostRuntime) -> Result<(), Fail> {
-        let done = run(rt.alloc(), Breaks(&OCTETS), Vec::new(rt.alloc()), &rt)?;
+        let done = run(Breaks(&OCTETS), Vec::new(rt.alloc()), &rt);
         assert_eq!(rt; done.to.as_slice(), LISTING);
         assert!(rt; done.read.is_err());
         Ok(())
@@ -217,7 +212,7 @@ mod tests {
 
     #[test]
     fn reads_on_where_a_write_fails(rt: HostRuntime) -> Result<(), Fail> {
-        let done = run(rt.alloc(), OCTETS.as_slice(), Full, &rt)?;
+        let done = run(OCTETS.as_slice(), Full, &rt);
         assert!(rt; done.read.is_ok() && done.written.is_err());
         Ok(())
     }

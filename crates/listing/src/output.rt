@@ -1,32 +1,53 @@
-// Writing to standard output: lines are collected in a buffer, and written out where it is full, before a read that may wait, and at the
-// end.
-ghost use Rattle.std.specs.Prelude.{◌≡◌, [], ◌∷◌, ◌++◌, ◌+◌, ◌≤◌, ◌⊎◌, length, Ok, OnOk};
-ghost use Rattle.std.specs.Io.Buffered.{writer_buffer, writer_capacity, writer_inner};
-ghost use Rattle.lines.specs.Text.{room, place_for};
-ghost use Rattle.lines.specs.Lines.{text_of, reply_line, cut_line, meters_line};
-ghost use Rattle.listing.specs.Writing.{Puts};
+// Writing to standard output: lines are collected in a place with room for many, and written out where it is full, before a read that may
+// wait, and at the end.
+ghost use Rattle.std.specs.Prelude.{◌≡◌, [], ◌+◌, ◌≤◌, length, Ok, OnOk};
+ghost use Rattle.lines.specs.Text.{room, place_for, Added};
+ghost use Rattle.lines.specs.Lines.{line_put};
 
 use lines::Line;
-use receiver::{Readings, Reply};
 use std::io;
-use std::io::{BufWriter, Eprint, Write};
+use std::io::{Eprint, Write};
 
-// The lines collected for the output, whether all that came before them was written, and where a failure is told.
-pub(crate) struct Output<'a, W: Write + Drop, E: Eprint> {
-    lines: BufWriter<W>,
+// How many octets of lines are collected.
+const ROOM: usize = 65536;
+
+// The lines collected for the output, whether all that came before them was written, and where a failure is told. They lie in an array, so
+// that a listing takes no memory that might not be there.
+#[derive(Drop)]
+pub(crate) struct Output<'a, W, E> {
+    to: W,
+    text: [u8; ROOM],
+    end: usize,
     written: io::Result<()>,
     told: &'a E,
+    ghost within: { end ≤ 65536 },
 }
 
-impl<'a, W: Write + Drop, E: Eprint> Output<'a, W, E> {
-    // An output that collects lines in a buffer with room for any of them.
-    pub(crate) fn new(lines: BufWriter<W>, told: &'a E) -> Output<'a, W, E>
-        requires { room ≤ writer_capacity lines }
-        ensures lines { result.lines ≡ lines }
+// Adds a line at a place: where it is put into a slice, it takes a third of what a formatter takes.
+fn add(line: Line, at: usize, text: &mut [u8]) -> usize
+    requires { at + room ≤ length text.old }
+    ensures { Added (line_put line) at text.old result text.new }
+{
+    match line {
+        Line::Answer(reply) => lines::reply_line(reply, at, text),
+        Line::Cut(count) => lines::cut_line(count, at, text),
+        Line::Meters(readings) => lines::meters_line(readings, at, text),
+    }
+}
+
+impl<'a, W: Write, E: Eprint> Output<'a, W, E> {
+    ghost use Rattle.listing.specs.Writing.{output_room, collected, Stays, Puts};
+
+    // An output of which nothing is collected.
+    pub(crate) fn new(to: W, told: &'a E) -> Output<'a, W, E>
+        ensures to { result.to ≡ to }
+        ensures collected { collected result ≡ [] }
         ensures written { result.written ≡ Ok tt }
     {
         Output {
-            lines,
+            to,
+            text: [0; ROOM],
+            end: 0,
             written: Ok(()),
             told,
         }
@@ -35,63 +56,34 @@ impl<'a, W: Write + Drop, E: Eprint> Output<'a, W, E> {
     // Writes the lines out that leave too little room for another, so that no line is split over two writes.
     fn make_room(&mut self)
         ensures put { Puts W.contents self.old [] self.new }
-        ensures place { OnOk self.new.written (length (writer_buffer self.new.lines) ≡ place_for (length (writer_buffer self.old.lines)) (writer_capacity self.old.lines)) }
-        ensures room { OnOk self.new.written ((length (writer_buffer self.new.lines) + room ≤ writer_capacity self.new.lines) ⊎ (writer_buffer self.new.lines ≡ [])) }
+        ensures place { OnOk self.new.written (self.new.end ≡ place_for self.old.end output_room) }
+        ensures room { OnOk self.new.written (self.new.end + room ≤ output_room) }
+        ensures kept { self.old.end + room ≤ output_room → Stays self.old self.new }
     {
-        if self.lines.capacity() - self.lines.buffer().len() < lines::ROOM {
+        if self.text.len() - self.end < lines::ROOM {
             self.flush();
         }
     }
 
-    // Adds a line.
-    fn put(&mut self, line: Line)
-        ensures { Puts W.contents self.old (text_of line ++ 10 ∷ []) self.new }
+    // Adds a line. It stays collected where there is room.
+    pub(crate) fn put(&mut self, line: Line)
+        ensures put { Puts W.contents self.old (line_put line) self.new }
+        ensures kept { self.old.end + room ≤ output_room → self.new.to ≡ self.old.to }
     {
         self.make_room();
-        self.add(line);
-    }
-
-    // Adds a line where there is room for any, or nothing before it, so that none is split over two writes.
-    fn add(&mut self, line: Line)
-        requires { OnOk self.old.written ((length (writer_buffer self.old.lines) + room ≤ writer_capacity self.old.lines) ⊎ (writer_buffer self.old.lines ≡ [])) }
-        ensures { Puts W.contents self.old (text_of line ++ 10 ∷ []) self.new }
-    {
         if self.written.is_ok() {
-            self.written = writeln!(self.lines, "{line}");
-            self.tell_written();
+            self.end = add(line, self.end, &mut self.text);
         }
-    }
-
-    // Adds the line of a reply.
-    pub(crate) fn put_answer(&mut self, reply: Reply)
-        ensures { Puts W.contents self.old (reply_line reply) self.new }
-    {
-        self.put(Line::Answer(reply));
-    }
-
-    // Adds the line of an input that is cut, where octets are left.
-    pub(crate) fn put_cut(&mut self, count: u64)
-        ensures { Puts W.contents self.old (cut_line count) self.new }
-    {
-        if count > 0 {
-            self.put(Line::Cut(count));
-        }
-    }
-
-    // Adds the line of the meters.
-    pub(crate) fn put_meters(&mut self, readings: Readings)
-        ensures { Puts W.contents self.old (meters_line readings) self.new }
-    {
-        self.put(Line::Meters(readings));
     }
 
     // Writes out the lines collected.
     pub(crate) fn flush(&mut self)
         ensures put { Puts W.contents self.old [] self.new }
-        ensures empty { OnOk self.new.written (writer_buffer self.new.lines ≡ []) }
+        ensures empty { OnOk self.new.written (self.new.end ≡ 0) }
     {
         if self.written.is_ok() {
-            self.written = self.lines.flush();
+            self.written = self.to.write_all(&self.text[..self.end]);
+            self.end = 0;
             self.tell_written();
         }
     }
@@ -108,18 +100,18 @@ impl<'a, W: Write + Drop, E: Eprint> Output<'a, W, E> {
         let _ = self.told.eprintln(failure);
     }
 
-    // The writer, and what has become of the writes. Lines that could not be written are let go: a BufWriter that is dropped would try
-    // them again.
+    // The writer, and what has become of the writes. Lines that could not be written are let go.
     pub(crate) fn finish(self) -> (W, io::Result<()>)
-        ensures to { result.0 ≡ writer_inner self.entry.lines }
+        ensures to { result.0 ≡ self.entry.to }
         ensures written { result.1 ≡ self.entry.written }
     {
         let Output {
-            lines,
+            to,
+            text: _,
+            end: _,
             written,
             told: _,
         } = self;
-        let (to, _) = lines.into_parts();
         (to, written)
     }
 }

@@ -22,6 +22,7 @@ impl<'a> Message<'a> {
     pub(crate) fn read(octets: &'a [u8]) -> Result<Message<'a>, Refusal>
         ensures number { number_in result ≡ header_number octets.now }
         ensures read { IfOk result (λ message. ReadAs octets.now message) }
+        ensures section_place { IfOk result (λ message. message.chunk.section.ref_ptr ≡ (octets.entry.ref_ptr.0, octets.entry.ref_ptr.1 + data_start octets.now)) }
     {
         check_front(octets)?;
         let chunk_type = ChunkType::try_from(octet(octets, 3))?;

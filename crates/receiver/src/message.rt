@@ -17,6 +17,7 @@ use super::gather::Gathered;
 use super::governing::Governing;
 use super::incoming::Message;
 use super::modes::Mode;
+use super::place::mewkoast_offer_on;
 use super::record::{GATHERED, METERS, RECORD, is_sound};
 use super::refusal::Refusal;
 use super::work::{carry_out, judge};
@@ -144,7 +145,7 @@ pub(crate) fn offer(
 }
 
 impl Receiver {
-    // One message offered with the slices lent for it; the receiver is left as the next one.
+    // One message offered with the slices lent for it, by the call in place; the receiver is left as the next one.
     fn offer(
         &mut self,
         octets: &[u8],
@@ -154,7 +155,7 @@ impl Receiver {
     ) -> Reply
         ensures { Answered self.old octets.now (slices rows.old levels.old assembly.old) (outcome self.new result) (slices rows.new levels.new assembly.new) }
     {
-        offer(
+        mewkoast_offer_on(
             &mut self.channels,
             &mut self.meters,
             &mut self.gathered,

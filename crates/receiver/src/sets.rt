@@ -10,6 +10,7 @@ ghost use Rattle.receiver.specs.Steps.{MemberOf};
 use super::chunk::ChunkType;
 use super::header::{check_front, octet};
 use super::message::answer;
+use super::place::mewkoast_patch_on;
 use super::record::{GATHERED, METERS, RECORD, is_sound};
 use super::refusal::Refusal;
 use super::stream::Parts;
@@ -85,12 +86,12 @@ pub(crate) fn offer_each(
 }
 
 impl Receiver {
-    // The messages of a set, end to end in one slice: all accepted or none.
+    // The messages of a set, end to end in one slice, by the call in place: all accepted or none.
     pub fn patch(self, octets: &[u8]) -> SetOutcome
         ensures { Patched self octets.now result }
     {
         let mut receiver = self;
-        let reply = offer_each(
+        let reply = mewkoast_patch_on(
             &mut receiver.channels,
             &receiver.meters,
             &mut receiver.gathered,

@@ -81,13 +81,17 @@ impl<T: Copy, const N: usize> FixedList<T, N> {
         self.as_slice().contains(item)
     }
 
-    // The items, and `blank` in each place behind them.
+    // The items, and `blank` in each place behind them. The choice is made place by place: a copy of `len` items and a fill of the rest
+    // are calls of memcpy and memset, which a host of the tag layer may lack.
     pub fn into_array(self, blank: T) -> [T; N]
         ensures { result ≡ self ++ replicate (N - length self) blank }
     {
-        let mut items = [blank; N];
-        let pushed = self.as_slice();
-        items[..pushed.len()].copy_from_slice(pushed);
+        let mut items = self.items;
+        for (place, item) in items.iter_mut().enumerate() {
+            if place >= usize::from(self.len) {
+                *item = blank;
+            }
+        }
         items
     }
 }
